@@ -1,0 +1,47 @@
+//! The exported functions over slices of any length: each answers 0 or the refusal's number.
+//! This module has all of the crate's unsafe code.
+
+mod raw {
+    extern "C" {
+        pub fn tealbobbin_base_add(a: u64, b: u64, out: *mut u64, len: usize) -> u32;
+        pub fn tealbobbin_base_sub(a: u64, b: u64, out: *mut u64, len: usize) -> u32;
+        pub fn tealbobbin_base_mul(a: u64, b: u64, out: *mut u64, len: usize) -> u32;
+        pub fn tealbobbin_base_inverse(a: u64, out: *mut u64, len: usize) -> u32;
+        pub fn tealbobbin_element_add(a: *const u64, al: usize, b: *const u64, bl: usize, out: *mut u64, len: usize) -> u32;
+        pub fn tealbobbin_element_sub(a: *const u64, al: usize, b: *const u64, bl: usize, out: *mut u64, len: usize) -> u32;
+        pub fn tealbobbin_element_mul(a: *const u64, al: usize, b: *const u64, bl: usize, out: *mut u64, len: usize) -> u32;
+        pub fn tealbobbin_element_scale(k: u64, a: *const u64, al: usize, out: *mut u64, len: usize) -> u32;
+        pub fn tealbobbin_element_inverse(a: *const u64, al: usize, out: *mut u64, len: usize) -> u32;
+    }
+}
+
+macro_rules! of_two_words {
+    ($($name:ident = $raw:ident),*) => { $(
+        pub fn $name(a: u64, b: u64, out: &mut [u64]) -> u32 {
+            unsafe { raw::$raw(a, b, out.as_mut_ptr(), out.len()) }
+        }
+    )* };
+}
+
+macro_rules! of_two_elements {
+    ($($name:ident = $raw:ident),*) => { $(
+        pub fn $name(a: &[u64], b: &[u64], out: &mut [u64]) -> u32 {
+            unsafe { raw::$raw(a.as_ptr(), a.len(), b.as_ptr(), b.len(), out.as_mut_ptr(), out.len()) }
+        }
+    )* };
+}
+
+of_two_words!(base_add = tealbobbin_base_add, base_sub = tealbobbin_base_sub, base_mul = tealbobbin_base_mul);
+of_two_elements!(element_add = tealbobbin_element_add, element_sub = tealbobbin_element_sub, element_mul = tealbobbin_element_mul);
+
+pub fn base_inverse(a: u64, out: &mut [u64]) -> u32 {
+    unsafe { raw::tealbobbin_base_inverse(a, out.as_mut_ptr(), out.len()) }
+}
+
+pub fn element_scale(k: u64, a: &[u64], out: &mut [u64]) -> u32 {
+    unsafe { raw::tealbobbin_element_scale(k, a.as_ptr(), a.len(), out.as_mut_ptr(), out.len()) }
+}
+
+pub fn element_inverse(a: &[u64], out: &mut [u64]) -> u32 {
+    unsafe { raw::tealbobbin_element_inverse(a.as_ptr(), a.len(), out.as_mut_ptr(), out.len()) }
+}

@@ -1,0 +1,180 @@
+//! The library and plain Rust side by side, in one run: nanoseconds a call, the best of several runs of each, and the ratio.
+//! Both sides are calls of the same shape: words checked, the result handed out through a slice.
+
+use std::hint::black_box;
+use std::time::Instant;
+
+use tealbobbin::abi;
+use tealbobbin::field::{Element, P};
+use tealbobbin::plain;
+use tealbobbin::random::Random;
+
+#[inline(never)]
+fn plain_base_mul(a: u64, b: u64, out: &mut [u64]) -> u32 {
+    if out.len() != 1 {
+        return 1;
+    }
+    if a >= P || b >= P {
+        return 2;
+    }
+    out[0] = plain::mul(a, b);
+    0
+}
+
+#[inline(never)]
+fn plain_base_inverse(a: u64, out: &mut [u64]) -> u32 {
+    if out.len() != 1 {
+        return 1;
+    }
+    if a >= P {
+        return 2;
+    }
+    if a == 0 {
+        return 6;
+    }
+    out[0] = plain::inverse(a);
+    0
+}
+
+fn element(words: &[u64]) -> Result<Element, u32> {
+    let e: Element = words.try_into().map_err(|_| 1u32)?;
+    if e.iter().any(|&w| w >= P) {
+        return Err(2);
+    }
+    Ok(e)
+}
+
+#[inline(never)]
+fn plain_element_mul(a: &[u64], b: &[u64], out: &mut [u64]) -> u32 {
+    let (a, b) = match (element(a), element(b)) {
+        (Ok(a), Ok(b)) => (a, b),
+        (Err(n), _) | (_, Err(n)) => return n,
+    };
+    if out.len() != 3 {
+        return 1;
+    }
+    out.copy_from_slice(&plain::element_mul(&a, &b));
+    0
+}
+
+#[inline(never)]
+fn plain_element_inverse(a: &[u64], out: &mut [u64]) -> u32 {
+    let a = match element(a) {
+        Ok(a) => a,
+        Err(n) => return n,
+    };
+    if out.len() != 3 {
+        return 1;
+    }
+    if a == [0; 3] {
+        return 6;
+    }
+    out.copy_from_slice(&plain::element_inverse(&a));
+    0
+}
+
+/// The best time of `runs` runs, in nanoseconds a call.
+fn time(runs: u32, calls: usize, mut run: impl FnMut()) -> f64 {
+    (0..runs)
+        .map(|_| {
+            let began = Instant::now();
+            run();
+            began.elapsed().as_secs_f64() * 1e9 / calls as f64
+        })
+        .fold(f64::INFINITY, f64::min)
+}
+
+/// Runs the two sides in turn, so that both meet the machine in the same mood.
+fn side_by_side(name: &str, calls: usize, mut ours: impl FnMut(), mut plainly: impl FnMut()) {
+    let (mut best, mut best_plain) = (f64::INFINITY, f64::INFINITY);
+    for _ in 0..9 {
+        best = best.min(time(1, calls, &mut ours));
+        best_plain = best_plain.min(time(1, calls, &mut plainly));
+    }
+    println!("{name:<28} {best:>10.2} {best_plain:>10.2} {:>8.2}", best / best_plain);
+}
+
+fn main() {
+    let mut random = Random(7);
+    let words: Vec<u64> = (0..4096).map(|_| random.word() % (P - 1) + 1).collect();
+    let elements: Vec<Element> = (0..1024).map(|_| [random.word() % P, random.word() % P, random.word() % P]).collect();
+    println!("{:<28} {:>10} {:>10} {:>8}", "", "ours, ns", "plain, ns", "ratio");
+
+    let products = |f: fn(u64, u64, &mut [u64]) -> u32| {
+        let words = words.clone();
+        move || {
+            let mut out = [0];
+            for _ in 0..50 {
+                for pair in words.windows(2) {
+                    black_box(f(pair[0], pair[1], &mut out));
+                }
+            }
+            black_box(out);
+        }
+    };
+    side_by_side("base product", 50 * 4095, products(abi::base_mul), products(plain_base_mul));
+
+    let chain = |f: fn(u64, u64, &mut [u64]) -> u32| {
+        let b = words[0];
+        move || {
+            let mut out = [b];
+            for _ in 0..200_000 {
+                let a = out[0];
+                black_box(f(a, b, &mut out));
+            }
+            black_box(out);
+        }
+    };
+    side_by_side("base product, a chain", 200_000, chain(abi::base_mul), chain(plain_base_mul));
+
+    let inverses = |f: fn(u64, &mut [u64]) -> u32| {
+        let words = words.clone();
+        move || {
+            let mut out = [0];
+            for &a in &words {
+                black_box(f(a, &mut out));
+            }
+            black_box(out);
+        }
+    };
+    side_by_side("base inverse", 4096, inverses(abi::base_inverse), inverses(plain_base_inverse));
+
+    let element_products = |f: fn(&[u64], &[u64], &mut [u64]) -> u32| {
+        let elements = elements.clone();
+        move || {
+            let mut out = [0; 3];
+            for _ in 0..50 {
+                for pair in elements.windows(2) {
+                    black_box(f(&pair[0], &pair[1], &mut out));
+                }
+            }
+            black_box(out);
+        }
+    };
+    side_by_side("element product", 50 * 1023, element_products(abi::element_mul), element_products(plain_element_mul));
+
+    let element_chain = |f: fn(&[u64], &[u64], &mut [u64]) -> u32| {
+        let b = elements[0];
+        move || {
+            let mut out = b;
+            for _ in 0..50_000 {
+                let a = out;
+                black_box(f(&a, &b, &mut out));
+            }
+            black_box(out);
+        }
+    };
+    side_by_side("element product, a chain", 50_000, element_chain(abi::element_mul), element_chain(plain_element_mul));
+
+    let element_inverses = |f: fn(&[u64], &mut [u64]) -> u32| {
+        let elements = elements.clone();
+        move || {
+            let mut out = [0; 3];
+            for a in &elements {
+                black_box(f(a, &mut out));
+            }
+            black_box(out);
+        }
+    };
+    side_by_side("element inverse", 1024, element_inverses(abi::element_inverse), element_inverses(plain_element_inverse));
+}

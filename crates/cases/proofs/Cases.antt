@@ -1,0 +1,17 @@
+-- Each case is computed.
+use mathlib.Core.Path.{refl}
+use Rattle.algebra.specs.Modulus as base
+use Rattle.algebra.specs.Modulus.{power}
+use Rattle.algebra.specs.Element as plain
+use Rattle.field.specs.Element.{product, inverse}
+use Rattle.cases.specs.Cases.{Cases}
+
+pub cases : Cases
+unfolding product inverse plain.product plain.inverse plain.cofactor plain.norm plain.scale base.inverse power
+cases =
+    record {
+      x-times-x² = refl;
+      x²-times-x² = refl;
+      one-over-x = refl;
+      one-over-2 = refl;
+    }

@@ -1,0 +1,2 @@
+-- The proved table of cases.
+pub mod Cases

@@ -1,0 +1,145 @@
+// The C ABI. A slice is a pointer and a count. Every function answers 0 or the number of the refusal,
+// and writes nothing on a refusal.
+use field::BaseAnswer;
+use field::ElementAnswer;
+ghost use mathlib.Core.Path.{_≡_};
+ghost use Rattle.field.specs.Answers.{baseAdd, baseSub, baseMul, baseInverse, elementAdd, elementSub, elementMul, elementScale, elementInverse};
+ghost use Rattle.engine.specs.Field.{baseNumberInto, baseInto, elementNumberInto, elementInto, elementNumber, elementOut, elementNumber2, elementOut2};
+
+// Hands a base answer out through a slice of one word.
+fn put_base(answer: BaseAnswer, out: &mut [u64]) -> u32
+    ensures number { λ r. ⌜ r ≡ baseNumberInto (now (out .entry)) answer ⌝ }
+    ensures written { λ r. ⌜ now (out .exit) ≡ baseInto (now (out .entry)) answer ⌝ }
+{
+    if out.len() != 1 {
+        return 1;
+    }
+    match answer {
+        BaseAnswer::Word(w) => {
+            out[0] = w;
+            0
+        }
+        BaseAnswer::Refused(refusal) => refusal::number(refusal),
+    }
+}
+
+// Hands an element answer out through a slice of three words.
+fn put_element(answer: ElementAnswer, out: &mut [u64]) -> u32
+    ensures number { λ r. ⌜ r ≡ elementNumberInto (now (out .entry)) answer ⌝ }
+    ensures written { λ r. ⌜ now (out .exit) ≡ elementInto (now (out .entry)) answer ⌝ }
+{
+    if out.len() != 3 {
+        return 1;
+    }
+    match answer {
+        ElementAnswer::Element(e) => {
+            field::unchecked::put_element(out, 0, e);
+            0
+        }
+        ElementAnswer::Refused(refusal) => refusal::number(refusal),
+    }
+}
+
+#[no_mangle]
+pub extern "C" fn tealbobbin_base_add(a: u64, b: u64, out: &mut [u64]) -> u32
+    ensures number { λ r. ⌜ r ≡ baseNumberInto (now (out .entry)) (baseAdd a b) ⌝ }
+    ensures written { λ r. ⌜ now (out .exit) ≡ baseInto (now (out .entry)) (baseAdd a b) ⌝ }
+{
+    put_base(field::base_add(a, b), out)
+}
+
+#[no_mangle]
+pub extern "C" fn tealbobbin_base_sub(a: u64, b: u64, out: &mut [u64]) -> u32
+    ensures number { λ r. ⌜ r ≡ baseNumberInto (now (out .entry)) (baseSub a b) ⌝ }
+    ensures written { λ r. ⌜ now (out .exit) ≡ baseInto (now (out .entry)) (baseSub a b) ⌝ }
+{
+    put_base(field::base_sub(a, b), out)
+}
+
+#[no_mangle]
+pub extern "C" fn tealbobbin_base_mul(a: u64, b: u64, out: &mut [u64]) -> u32
+    ensures number { λ r. ⌜ r ≡ baseNumberInto (now (out .entry)) (baseMul a b) ⌝ }
+    ensures written { λ r. ⌜ now (out .exit) ≡ baseInto (now (out .entry)) (baseMul a b) ⌝ }
+{
+    put_base(field::base_mul(a, b), out)
+}
+
+#[no_mangle]
+pub extern "C" fn tealbobbin_base_inverse(a: u64, out: &mut [u64]) -> u32
+    ensures number { λ r. ⌜ r ≡ baseNumberInto (now (out .entry)) (baseInverse a) ⌝ }
+    ensures written { λ r. ⌜ now (out .exit) ≡ baseInto (now (out .entry)) (baseInverse a) ⌝ }
+{
+    put_base(field::base_inverse(a), out)
+}
+
+#[no_mangle]
+pub extern "C" fn tealbobbin_element_add(a: &[u64], b: &[u64], out: &mut [u64]) -> u32
+    ensures number { λ r. ⌜ r ≡ elementNumber2 elementAdd (now (a .entry)) (now (b .entry)) (now (out .entry)) ⌝ }
+    ensures written { λ r. ⌜ now (out .exit) ≡ elementOut2 elementAdd (now (a .entry)) (now (b .entry)) (now (out .entry)) ⌝ }
+{
+    if a.len() != 3 {
+        return 1;
+    }
+    if b.len() != 3 {
+        return 1;
+    }
+    let x = field::unchecked::element_at(a, 0);
+    let y = field::unchecked::element_at(b, 0);
+    put_element(field::element_add(x, y), out)
+}
+
+#[no_mangle]
+pub extern "C" fn tealbobbin_element_sub(a: &[u64], b: &[u64], out: &mut [u64]) -> u32
+    ensures number { λ r. ⌜ r ≡ elementNumber2 elementSub (now (a .entry)) (now (b .entry)) (now (out .entry)) ⌝ }
+    ensures written { λ r. ⌜ now (out .exit) ≡ elementOut2 elementSub (now (a .entry)) (now (b .entry)) (now (out .entry)) ⌝ }
+{
+    if a.len() != 3 {
+        return 1;
+    }
+    if b.len() != 3 {
+        return 1;
+    }
+    let x = field::unchecked::element_at(a, 0);
+    let y = field::unchecked::element_at(b, 0);
+    put_element(field::element_sub(x, y), out)
+}
+
+#[no_mangle]
+pub extern "C" fn tealbobbin_element_mul(a: &[u64], b: &[u64], out: &mut [u64]) -> u32
+    ensures number { λ r. ⌜ r ≡ elementNumber2 elementMul (now (a .entry)) (now (b .entry)) (now (out .entry)) ⌝ }
+    ensures written { λ r. ⌜ now (out .exit) ≡ elementOut2 elementMul (now (a .entry)) (now (b .entry)) (now (out .entry)) ⌝ }
+{
+    if a.len() != 3 {
+        return 1;
+    }
+    if b.len() != 3 {
+        return 1;
+    }
+    let x = field::unchecked::element_at(a, 0);
+    let y = field::unchecked::element_at(b, 0);
+    put_element(field::element_mul(x, y), out)
+}
+
+#[no_mangle]
+pub extern "C" fn tealbobbin_element_scale(k: u64, a: &[u64], out: &mut [u64]) -> u32
+    ensures number { λ r. ⌜ r ≡ elementNumber (elementScale k) (now (a .entry)) (now (out .entry)) ⌝ }
+    ensures written { λ r. ⌜ now (out .exit) ≡ elementOut (elementScale k) (now (a .entry)) (now (out .entry)) ⌝ }
+{
+    if a.len() != 3 {
+        return 1;
+    }
+    let x = field::unchecked::element_at(a, 0);
+    put_element(field::element_scale(k, x), out)
+}
+
+#[no_mangle]
+pub extern "C" fn tealbobbin_element_inverse(a: &[u64], out: &mut [u64]) -> u32
+    ensures number { λ r. ⌜ r ≡ elementNumber elementInverse (now (a .entry)) (now (out .entry)) ⌝ }
+    ensures written { λ r. ⌜ now (out .exit) ≡ elementOut elementInverse (now (a .entry)) (now (out .entry)) ⌝ }
+{
+    if a.len() != 3 {
+        return 1;
+    }
+    let x = field::unchecked::element_at(a, 0);
+    put_element(field::element_inverse(x), out)
+}

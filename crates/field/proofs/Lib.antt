@@ -1,0 +1,5 @@
+-- Laws that more than one proof cites.
+pub mod Modular
+pub mod Powers
+pub mod Below
+pub mod Laws

@@ -1,0 +1,4 @@
+-- What the field's operations give.
+pub mod Words
+pub mod Element
+pub mod Answers

@@ -1,0 +1,203 @@
+// Arithmetic modulo p = 2^64 - 2^32 + 1, and in the field of the p^3 elements over it.
+// A public operation turns away a word that is not below p.
+use refusal::Refusal;
+ghost use mathlib.Core.Path.{_≡_};
+ghost use Rattle.field.specs.Words.{allBelow};
+ghost use Rattle.field.specs.Element.{canonical, isZero};
+ghost use Rattle.field.specs.Answers.{baseAdd, baseSub, baseMul, baseInverse, elementAdd, elementSub, elementMul, elementScale, elementInverse};
+
+// The same operations for callers that know their words to be below p.
+pub mod unchecked;
+
+pub const P: u64 = 18446744069414584321;
+
+// c0 + c1·X + c2·X² modulo X³ - X + 1.
+pub struct XFieldElement {
+    pub c0: u64,
+    pub c1: u64,
+    pub c2: u64,
+}
+
+impl XFieldElement {
+    pub const ZERO: XFieldElement = XFieldElement {
+        c0: 0,
+        c1: 0,
+        c2: 0,
+    };
+
+    pub const ONE: XFieldElement = XFieldElement {
+        c0: 1,
+        c1: 0,
+        c2: 0,
+    };
+
+    pub const X: XFieldElement = XFieldElement {
+        c0: 0,
+        c1: 1,
+        c2: 0,
+    };
+}
+
+pub enum BaseAnswer {
+    Word(u64),
+    Refused(Refusal),
+}
+
+pub enum ElementAnswer {
+    Element(XFieldElement),
+    Refused(Refusal),
+}
+
+// Whether every word is below p.
+pub fn all_below(words: &[u64]) -> bool
+    ensures { λ r. ⌜ r ≡ allBelow (now (words .entry)) ⌝ }
+{
+    let mut i: usize = 0;
+    while i < words.len() {
+        if P <= words[i] {
+            return false;
+        }
+        i += 1;
+    }
+    true
+}
+
+// Whether the three words of an element are below p.
+pub fn is_canonical(e: XFieldElement) -> bool
+    ensures { λ r. ⌜ r ≡ canonical e ⌝ }
+{
+    if P <= e.c0 {
+        return false;
+    }
+    if P <= e.c1 {
+        return false;
+    }
+    if P <= e.c2 {
+        return false;
+    }
+    true
+}
+
+pub fn is_zero(e: XFieldElement) -> bool
+    ensures { λ r. ⌜ r ≡ isZero e ⌝ }
+{
+    if e.c0 != 0 {
+        return false;
+    }
+    if e.c1 != 0 {
+        return false;
+    }
+    if e.c2 != 0 {
+        return false;
+    }
+    true
+}
+
+pub fn base_add(a: u64, b: u64) -> BaseAnswer
+    ensures { λ r. ⌜ r ≡ baseAdd a b ⌝ }
+{
+    if P <= a {
+        return BaseAnswer::Refused(Refusal::WordNotBelowP);
+    }
+    if P <= b {
+        return BaseAnswer::Refused(Refusal::WordNotBelowP);
+    }
+    BaseAnswer::Word(unchecked::add(a, b))
+}
+
+pub fn base_sub(a: u64, b: u64) -> BaseAnswer
+    ensures { λ r. ⌜ r ≡ baseSub a b ⌝ }
+{
+    if P <= a {
+        return BaseAnswer::Refused(Refusal::WordNotBelowP);
+    }
+    if P <= b {
+        return BaseAnswer::Refused(Refusal::WordNotBelowP);
+    }
+    BaseAnswer::Word(unchecked::sub(a, b))
+}
+
+pub fn base_mul(a: u64, b: u64) -> BaseAnswer
+    ensures { λ r. ⌜ r ≡ baseMul a b ⌝ }
+{
+    if P <= a {
+        return BaseAnswer::Refused(Refusal::WordNotBelowP);
+    }
+    if P <= b {
+        return BaseAnswer::Refused(Refusal::WordNotBelowP);
+    }
+    BaseAnswer::Word(unchecked::mul(a, b))
+}
+
+pub fn base_inverse(a: u64) -> BaseAnswer
+    ensures { λ r. ⌜ r ≡ baseInverse a ⌝ }
+{
+    if P <= a {
+        return BaseAnswer::Refused(Refusal::WordNotBelowP);
+    }
+    if a == 0 {
+        return BaseAnswer::Refused(Refusal::ZeroDenominator);
+    }
+    BaseAnswer::Word(unchecked::inverse(a))
+}
+
+pub fn element_add(a: XFieldElement, b: XFieldElement) -> ElementAnswer
+    ensures { λ r. ⌜ r ≡ elementAdd a b ⌝ }
+{
+    if !is_canonical(a) {
+        return ElementAnswer::Refused(Refusal::WordNotBelowP);
+    }
+    if !is_canonical(b) {
+        return ElementAnswer::Refused(Refusal::WordNotBelowP);
+    }
+    ElementAnswer::Element(unchecked::element_add(a, b))
+}
+
+pub fn element_sub(a: XFieldElement, b: XFieldElement) -> ElementAnswer
+    ensures { λ r. ⌜ r ≡ elementSub a b ⌝ }
+{
+    if !is_canonical(a) {
+        return ElementAnswer::Refused(Refusal::WordNotBelowP);
+    }
+    if !is_canonical(b) {
+        return ElementAnswer::Refused(Refusal::WordNotBelowP);
+    }
+    ElementAnswer::Element(unchecked::element_sub(a, b))
+}
+
+pub fn element_mul(a: XFieldElement, b: XFieldElement) -> ElementAnswer
+    ensures { λ r. ⌜ r ≡ elementMul a b ⌝ }
+{
+    if !is_canonical(a) {
+        return ElementAnswer::Refused(Refusal::WordNotBelowP);
+    }
+    if !is_canonical(b) {
+        return ElementAnswer::Refused(Refusal::WordNotBelowP);
+    }
+    ElementAnswer::Element(unchecked::element_mul(a, b))
+}
+
+// A base word times an element.
+pub fn element_scale(k: u64, a: XFieldElement) -> ElementAnswer
+    ensures { λ r. ⌜ r ≡ elementScale k a ⌝ }
+{
+    if P <= k {
+        return ElementAnswer::Refused(Refusal::WordNotBelowP);
+    }
+    if !is_canonical(a) {
+        return ElementAnswer::Refused(Refusal::WordNotBelowP);
+    }
+    ElementAnswer::Element(unchecked::element_scale(k, a))
+}
+
+pub fn element_inverse(a: XFieldElement) -> ElementAnswer
+    ensures { λ r. ⌜ r ≡ elementInverse a ⌝ }
+{
+    if !is_canonical(a) {
+        return ElementAnswer::Refused(Refusal::WordNotBelowP);
+    }
+    if is_zero(a) {
+        return ElementAnswer::Refused(Refusal::ZeroDenominator);
+    }
+    ElementAnswer::Element(unchecked::element_inverse(a))
+}
