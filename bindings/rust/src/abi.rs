@@ -12,6 +12,19 @@ mod raw {
         pub fn tealbobbin_element_mul(a: *const u64, al: usize, b: *const u64, bl: usize, out: *mut u64, len: usize) -> u32;
         pub fn tealbobbin_element_scale(k: u64, a: *const u64, al: usize, out: *mut u64, len: usize) -> u32;
         pub fn tealbobbin_element_inverse(a: *const u64, al: usize, out: *mut u64, len: usize) -> u32;
+        pub fn tealbobbin_decode(row: *const u64, rl: usize, out: *mut u64, len: usize) -> u32;
+        pub fn tealbobbin_challenges(
+            sampled: *const u64,
+            sl: usize,
+            digest: *const u64,
+            dl: usize,
+            input: *const u64,
+            il: usize,
+            output: *const u64,
+            ol: usize,
+            record: *mut u64,
+            len: usize,
+        ) -> u32;
     }
 }
 
@@ -44,4 +57,26 @@ pub fn element_scale(k: u64, a: &[u64], out: &mut [u64]) -> u32 {
 
 pub fn element_inverse(a: &[u64], out: &mut [u64]) -> u32 {
     unsafe { raw::tealbobbin_element_inverse(a.as_ptr(), a.len(), out.as_mut_ptr(), out.len()) }
+}
+
+/// Into `out` goes 1 and the opcode, or 0 and 0 where the row decodes to nothing.
+pub fn decode(row: &[u64], out: &mut [u64]) -> u32 {
+    unsafe { raw::tealbobbin_decode(row.as_ptr(), row.len(), out.as_mut_ptr(), out.len()) }
+}
+
+pub fn challenges(sampled: &[u64], digest: &[u64], input: &[u64], output: &[u64], record: &mut [u64]) -> u32 {
+    unsafe {
+        raw::tealbobbin_challenges(
+            sampled.as_ptr(),
+            sampled.len(),
+            digest.as_ptr(),
+            digest.len(),
+            input.as_ptr(),
+            input.len(),
+            output.as_ptr(),
+            output.len(),
+            record.as_mut_ptr(),
+            record.len(),
+        )
+    }
 }

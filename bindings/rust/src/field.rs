@@ -1,17 +1,12 @@
 //! Arithmetic modulo p = 2^64 - 2^32 + 1 and in the field of the p³ elements over it.
 
-use crate::abi;
-use crate::Refusal;
+use crate::{abi, answer, Refusal};
 
 /// The modulus: a base element is a word below it.
 pub const P: u64 = 18446744069414584321;
 
 /// c0 + c1·X + c2·X² modulo X³ - X + 1.
 pub type Element = [u64; 3];
-
-fn answer<T>(number: u32, value: T) -> Result<T, Refusal> {
-    Refusal::from_number(number).map_or(Ok(value), Err)
-}
 
 macro_rules! of_two_words {
     ($($name:ident),*) => { $(

@@ -1,7 +1,9 @@
 //! Safe functions over Tealbobbin's static library.
 
 pub mod abi;
+pub mod challenges;
 pub mod field;
+pub mod isa;
 pub mod plain;
 pub mod random;
 
@@ -18,6 +20,11 @@ pub enum Refusal {
     UnknownCommand = 7,
     BatchCutOff = 8,
     CommandOutOfPlace = 9,
+}
+
+/// The value, or the refusal that the number names.
+fn answer<T>(number: u32, value: T) -> Result<T, Refusal> {
+    Refusal::from_number(number).map_or(Ok(value), Err)
 }
 
 impl Refusal {

@@ -4,11 +4,12 @@ use mathlib.Core.List.{List, [], _∷_}
 use Prim.Native.Nat.{ℕ}
 use lib.Dec.{eqb}
 use lib.ListN.{length}
+use Rattle.base_field.specs.Answers.{baseNumber}
+use Rattle.base_field.specs.declared.BaseAnswer.{BaseAnswer}
+use Rattle.base_field.specs.declared.BaseAnswer.the-variants as base-answer
 use Rattle.field.specs.Answers as answers
 use Rattle.field.specs.Element.{elementAt, wordsOf}
 use Rattle.field.specs.declared.XFieldElement.{XFieldElement}
-use Rattle.field.specs.declared.BaseAnswer.{BaseAnswer}
-use Rattle.field.specs.declared.BaseAnswer.the-variants as base-answer
 use Rattle.field.specs.declared.ElementAnswer.{ElementAnswer}
 use Rattle.field.specs.declared.ElementAnswer.the-variants as element-answer
 
@@ -28,7 +29,7 @@ abbrev pub isElement : List ℕ → Bool
 isElement l = eqb (length l) 3
 
 abbrev pub baseNumberInto : List ℕ → BaseAnswer → ℕ
-baseNumberInto out answer = cond (isWord out) (answers.baseNumber answer) 1
+baseNumberInto out answer = cond (isWord out) (baseNumber answer) 1
 
 abbrev pub baseInto : List ℕ → BaseAnswer → List ℕ
 baseInto out answer = cond (isWord out) (baseWritten out answer) out

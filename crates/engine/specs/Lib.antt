@@ -1,2 +1,3 @@
 -- What the exported functions answer and write.
 pub mod Field
+pub mod Decode

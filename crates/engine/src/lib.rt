@@ -1,9 +1,17 @@
 // The C ABI. A slice is a pointer and a count. Every function answers 0 or the number of the refusal,
 // and writes nothing on a refusal.
-use field::BaseAnswer;
+use base_field::BaseAnswer;
+use challenges::Challenges;
 use field::ElementAnswer;
+use isa::DecodeAnswer;
+use isa::Decoded;
 ghost use mathlib.Core.Path.{_≡_};
-ghost use Rattle.field.specs.Answers.{baseAdd, baseSub, baseMul, baseInverse, elementAdd, elementSub, elementMul, elementScale, elementInverse};
+ghost use Rattle.base_field.specs.Answers.{baseAdd, baseSub, baseMul, baseInverse};
+ghost use Rattle.field.specs.Answers.{elementAdd, elementSub, elementMul, elementScale, elementInverse};
+ghost use Rattle.refusal.specs.Number.{answerNumberOf};
+ghost use Rattle.isa.specs.Answer.{decodeAnswer};
+ghost use Rattle.challenges.specs.Derived.{challengesAnswer, challengesRecord};
+ghost use Rattle.engine.specs.Decode.{decodeNumberInto, decodeInto};
 ghost use Rattle.engine.specs.Field.{baseNumberInto, baseInto, elementNumberInto, elementInto, elementNumber, elementOut, elementNumber2, elementOut2};
 
 // Hands a base answer out through a slice of one word.
@@ -45,7 +53,7 @@ pub extern "C" fn tealbobbin_base_add(a: u64, b: u64, out: &mut [u64]) -> u32
     ensures number { λ r. ⌜ r ≡ baseNumberInto (now (out .entry)) (baseAdd a b) ⌝ }
     ensures written { λ r. ⌜ now (out .exit) ≡ baseInto (now (out .entry)) (baseAdd a b) ⌝ }
 {
-    put_base(field::base_add(a, b), out)
+    put_base(base_field::add(a, b), out)
 }
 
 #[no_mangle]
@@ -53,7 +61,7 @@ pub extern "C" fn tealbobbin_base_sub(a: u64, b: u64, out: &mut [u64]) -> u32
     ensures number { λ r. ⌜ r ≡ baseNumberInto (now (out .entry)) (baseSub a b) ⌝ }
     ensures written { λ r. ⌜ now (out .exit) ≡ baseInto (now (out .entry)) (baseSub a b) ⌝ }
 {
-    put_base(field::base_sub(a, b), out)
+    put_base(base_field::sub(a, b), out)
 }
 
 #[no_mangle]
@@ -61,7 +69,7 @@ pub extern "C" fn tealbobbin_base_mul(a: u64, b: u64, out: &mut [u64]) -> u32
     ensures number { λ r. ⌜ r ≡ baseNumberInto (now (out .entry)) (baseMul a b) ⌝ }
     ensures written { λ r. ⌜ now (out .exit) ≡ baseInto (now (out .entry)) (baseMul a b) ⌝ }
 {
-    put_base(field::base_mul(a, b), out)
+    put_base(base_field::mul(a, b), out)
 }
 
 #[no_mangle]
@@ -69,7 +77,7 @@ pub extern "C" fn tealbobbin_base_inverse(a: u64, out: &mut [u64]) -> u32
     ensures number { λ r. ⌜ r ≡ baseNumberInto (now (out .entry)) (baseInverse a) ⌝ }
     ensures written { λ r. ⌜ now (out .exit) ≡ baseInto (now (out .entry)) (baseInverse a) ⌝ }
 {
-    put_base(field::base_inverse(a), out)
+    put_base(base_field::inverse(a), out)
 }
 
 #[no_mangle]
@@ -142,4 +150,52 @@ pub extern "C" fn tealbobbin_element_inverse(a: &[u64], out: &mut [u64]) -> u32
     }
     let x = field::unchecked::element_at(a, 0);
     put_element(field::element_inverse(x), out)
+}
+
+// Into `out` goes 1 and the opcode, or 0 and 0 where the row decodes to nothing.
+#[no_mangle]
+pub extern "C" fn tealbobbin_decode(row: &[u64], out: &mut [u64]) -> u32
+    ensures number { λ r. ⌜ r ≡ decodeNumberInto (now (out .entry)) (decodeAnswer (now (row .entry))) ⌝ }
+    ensures written { λ r. ⌜ now (out .exit) ≡ decodeInto (now (out .entry)) (decodeAnswer (now (row .entry))) ⌝ }
+{
+    put_decoded(isa::decode(row), out)
+}
+
+fn put_decoded(answer: DecodeAnswer, out: &mut [u64]) -> u32
+    ensures number { λ r. ⌜ r ≡ decodeNumberInto (now (out .entry)) answer ⌝ }
+    ensures written { λ r. ⌜ now (out .exit) ≡ decodeInto (now (out .entry)) answer ⌝ }
+{
+    if out.len() != 2 {
+        return 1;
+    }
+    match answer {
+        DecodeAnswer::Row(decoded) => match decoded {
+            Decoded::Read(i) => {
+                out[0] = 1;
+                out[1] = isa::opcode(i);
+                0
+            }
+            Decoded::Nothing => {
+                out[0] = 0;
+                out[1] = 0;
+                0
+            }
+        },
+        DecodeAnswer::Refused(refusal) => refusal::number(refusal),
+    }
+}
+
+// Writes the record of 189 words: the sampled challenges and the four that are derived from them.
+#[no_mangle]
+pub extern "C" fn tealbobbin_challenges(
+    sampled: &[u64],
+    digest: &[u64],
+    input: &[u64],
+    output: &[u64],
+    lent: &mut [u64],
+) -> u32
+    ensures number { λ r. ⌜ r ≡ answerNumberOf (challengesAnswer (now (sampled .entry)) (now (digest .entry)) (now (input .entry)) (now (output .entry)) (now (lent .entry))) ⌝ }
+    ensures written { λ r. ⌜ now (lent .exit) ≡ challengesRecord (now (sampled .entry)) (now (digest .entry)) (now (input .entry)) (now (output .entry)) (now (lent .entry)) ⌝ }
+{
+    refusal::answer_number(Challenges::new(sampled, digest, input, output, lent))
 }

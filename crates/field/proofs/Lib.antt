@@ -1,5 +1,3 @@
 -- Laws that more than one proof cites.
-pub mod Modular
-pub mod Powers
 pub mod Below
 pub mod Laws

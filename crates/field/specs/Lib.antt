@@ -1,4 +1,3 @@
--- What the field's operations give.
-pub mod Words
+-- What the operations on elements give.
 pub mod Element
 pub mod Answers

@@ -1,15 +1,12 @@
-// Arithmetic modulo p = 2^64 - 2^32 + 1, and in the field of the p^3 elements over it.
-// A public operation turns away a word that is not below p.
+// The field of the p^3 elements. A public operation turns away a word that is not below p.
+use base_field::P;
 use refusal::Refusal;
 ghost use mathlib.Core.Path.{_≡_};
-ghost use Rattle.field.specs.Words.{allBelow};
 ghost use Rattle.field.specs.Element.{canonical, isZero};
-ghost use Rattle.field.specs.Answers.{baseAdd, baseSub, baseMul, baseInverse, elementAdd, elementSub, elementMul, elementScale, elementInverse};
+ghost use Rattle.field.specs.Answers.{elementAdd, elementSub, elementMul, elementScale, elementInverse};
 
 // The same operations for callers that know their words to be below p.
 pub mod unchecked;
-
-pub const P: u64 = 18446744069414584321;
 
 // c0 + c1·X + c2·X² modulo X³ - X + 1.
 pub struct XFieldElement {
@@ -38,28 +35,9 @@ impl XFieldElement {
     };
 }
 
-pub enum BaseAnswer {
-    Word(u64),
-    Refused(Refusal),
-}
-
 pub enum ElementAnswer {
     Element(XFieldElement),
     Refused(Refusal),
-}
-
-// Whether every word is below p.
-pub fn all_below(words: &[u64]) -> bool
-    ensures { λ r. ⌜ r ≡ allBelow (now (words .entry)) ⌝ }
-{
-    let mut i: usize = 0;
-    while i < words.len() {
-        if P <= words[i] {
-            return false;
-        }
-        i += 1;
-    }
-    true
 }
 
 // Whether the three words of an element are below p.
@@ -91,54 +69,6 @@ pub fn is_zero(e: XFieldElement) -> bool
         return false;
     }
     true
-}
-
-pub fn base_add(a: u64, b: u64) -> BaseAnswer
-    ensures { λ r. ⌜ r ≡ baseAdd a b ⌝ }
-{
-    if P <= a {
-        return BaseAnswer::Refused(Refusal::WordNotBelowP);
-    }
-    if P <= b {
-        return BaseAnswer::Refused(Refusal::WordNotBelowP);
-    }
-    BaseAnswer::Word(unchecked::add(a, b))
-}
-
-pub fn base_sub(a: u64, b: u64) -> BaseAnswer
-    ensures { λ r. ⌜ r ≡ baseSub a b ⌝ }
-{
-    if P <= a {
-        return BaseAnswer::Refused(Refusal::WordNotBelowP);
-    }
-    if P <= b {
-        return BaseAnswer::Refused(Refusal::WordNotBelowP);
-    }
-    BaseAnswer::Word(unchecked::sub(a, b))
-}
-
-pub fn base_mul(a: u64, b: u64) -> BaseAnswer
-    ensures { λ r. ⌜ r ≡ baseMul a b ⌝ }
-{
-    if P <= a {
-        return BaseAnswer::Refused(Refusal::WordNotBelowP);
-    }
-    if P <= b {
-        return BaseAnswer::Refused(Refusal::WordNotBelowP);
-    }
-    BaseAnswer::Word(unchecked::mul(a, b))
-}
-
-pub fn base_inverse(a: u64) -> BaseAnswer
-    ensures { λ r. ⌜ r ≡ baseInverse a ⌝ }
-{
-    if P <= a {
-        return BaseAnswer::Refused(Refusal::WordNotBelowP);
-    }
-    if a == 0 {
-        return BaseAnswer::Refused(Refusal::ZeroDenominator);
-    }
-    BaseAnswer::Word(unchecked::inverse(a))
 }
 
 pub fn element_add(a: XFieldElement, b: XFieldElement) -> ElementAnswer

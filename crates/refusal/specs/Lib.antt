@@ -1,2 +1,3 @@
--- The refusals' numbers.
+-- The refusals' numbers, and the limit that several of them share.
 pub mod Number
+pub mod Long

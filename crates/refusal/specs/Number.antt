@@ -20,3 +20,8 @@ numberOf CommandOutOfPlace = 9
 abbrev pub answerNumberOf : Answer → ℕ
 answerNumberOf Done = 0
 answerNumberOf (Refused r) = numberOf r
+
+-- what a lent slice holds afterwards: itself after a refusal
+abbrev pub onDone : {A : Type 0} → Answer → A → A → A
+onDone Done result kept = result
+onDone (Refused r) result kept = kept

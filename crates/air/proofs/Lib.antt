@@ -1,0 +1,2 @@
+-- The columns and the challenges count from 0.
+pub mod Counted

@@ -1,0 +1,4 @@
+-- Laws that more than one proof cites.
+pub mod Modular
+pub mod Powers
+pub mod Below

@@ -1,0 +1,3 @@
+-- What the operations on words give.
+pub mod Words
+pub mod Answers

@@ -1,0 +1,3 @@
+-- Laws on the symbols of an argument and on the table.
+pub mod Symbols
+pub mod Table

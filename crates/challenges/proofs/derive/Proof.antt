@@ -1,0 +1,58 @@
+-- The record's parts are the definition's.
+use borrow.Author.Needs.{needs}
+use mathlib.Core.Path.{ap, _∙_}
+use Rattle.base_field.specs.Words.{allBelow}
+use Rattle.air.specs.ChallengeId.{LOOKUP-TABLE-PUBLIC-INDETERMINATE}
+use Rattle.challenges.specs.Derived.{terminal, derivedRecord}
+use Rattle.challenges.proofs.Table.{table-below}
+use Rattle.challenges.proofs.derive.Statement.{statement}
+use Rattle.challenges.proofs.derive.Tie as tie
+
+terminal-requires : tie.Need-terminal-requires
+terminal-requires c κs = search needs
+
+terminal-requires-2 : tie.Need-terminal-requires-2
+terminal-requires-2 c κs = search needs
+
+terminal-requires-3 : tie.Need-terminal-requires-3
+terminal-requires-3 c κs = search needs
+
+lookup-words-requires : tie.Need-lookup-words-requires
+lookup-words-requires c κs = search needs
+
+slice-aggregate-terminal : tie.Need-slice-aggregate-terminal
+slice-aggregate-terminal c = search needs
+
+terminal-requires-4 : tie.Need-terminal-requires-4
+terminal-requires-4 c κs = (search needs, ap allBelow (c .before .lookup-words .ensures) ∙ table-below)
+
+write-record-requires : tie.Need-write-record-requires
+write-record-requires c κs = search needs
+
+same-length : tie.Need-same-length
+same-length c = search needs
+
+returns : tie.Need-returns
+unfolding derivedRecord
+returns c =
+    let at4 = c .before .before .before .before in
+    let at3 = at4 .before .before .before in
+    let at2 = at3 .before in
+    let at1 = at2 .before in
+    let sampled = at1 .before .before .before .before .before .before .args .sampled .now in
+    let lookup = at4 .terminal4 .ensures ∙ ap (terminal sampled LOOKUP-TABLE-PUBLIC-INDETERMINATE) (at4 .before .before .lookup-words .ensures) in
+    rw (c .before .before .write-record .ensures, at2 .terminal2 .ensures, at3 .terminal3 .ensures, lookup, at1 .terminal .ensures)
+
+pub derive-spec : {M : Type 1} → statement M
+derive-spec =
+    tie.close
+    (tie.spec
+    terminal-requires
+    terminal-requires-2
+    terminal-requires-3
+    lookup-words-requires
+    slice-aggregate-terminal
+    terminal-requires-4
+    write-record-requires
+    same-length
+    returns)

@@ -1,0 +1,55 @@
+-- The record of 63 challenges: the sampled ones, and four that are derived from them and from the claim.
+use mathlib.Core.Bool.{Bool, cond, not, _&&_}
+use mathlib.Core.List.{List, _++_, map}
+use Prim.Native.Nat.{ℕ, _*_}
+use lib.Dec.{eqb}
+use lib.ListN.{length}
+use Rattle.base_field.specs.Words.{allBelow}
+use Rattle.field.specs.Element.{elementAt, wordsOf, lift}
+use Rattle.field.specs.declared.XFieldElement.{XFieldElement}
+use Rattle.refusal.specs.Number.{onDone}
+use Rattle.refusal.specs.Long.{isLong}
+use Rattle.refusal.specs.declared.Answer.{Answer}
+use Rattle.refusal.specs.declared.Answer.the-variants.{Done, Refused}
+use Rattle.refusal.specs.declared.Refusal.the-variants.{SliceLength, WordNotBelowP}
+use Rattle.air.specs.ChallengeId.{COMPRESS-PROGRAM-DIGEST-INDETERMINATE, STANDARD-INPUT-INDETERMINATE, STANDARD-OUTPUT-INDETERMINATE, LOOKUP-TABLE-PUBLIC-INDETERMINATE}
+use Rattle.challenges.specs.CrossTable.{evaluationArgument}
+use Rattle.challenges.specs.LookupTable.{lookupTable}
+
+-- the challenge at a place of the record
+abbrev pub challengeAt : List ℕ → ℕ → XFieldElement
+challengeAt words i = elementAt words (i * 3)
+
+-- the terminal of a list of words under a sampled challenge
+unfoldable pub terminal : List ℕ → ℕ → List ℕ → XFieldElement
+terminal sampled id words = evaluationArgument (challengeAt sampled id) (map lift words)
+
+-- elements 59 (input), 60 (output), 61 (byte table) and 62 (digest) behind the sampled ones
+unfoldable pub derivedRecord : List ℕ → List ℕ → List ℕ → List ℕ → List ℕ
+unfolding terminal lookupTable
+derivedRecord sampled digest input output =
+    sampled
+    ++ wordsOf (terminal sampled STANDARD-INPUT-INDETERMINATE input)
+    ++ wordsOf (terminal sampled STANDARD-OUTPUT-INDETERMINATE output)
+    ++ wordsOf (terminal sampled LOOKUP-TABLE-PUBLIC-INDETERMINATE lookupTable)
+    ++ wordsOf (terminal sampled COMPRESS-PROGRAM-DIGEST-INDETERMINATE digest)
+
+-- "1 unless 177 sampled words, 5 digest words, input and output not long, 189 words to write; 2."
+abbrev pub rightLengths : List ℕ → List ℕ → List ℕ → List ℕ → List ℕ → Bool
+rightLengths sampled digest input output lent =
+    eqb (length sampled) 177 && (eqb (length digest) 5 && (not (isLong (length input)) && (not (isLong (length output)) && eqb (length lent) 189)))
+
+abbrev pub allWordsBelow : List ℕ → List ℕ → List ℕ → List ℕ → Bool
+allWordsBelow sampled digest input output = allBelow sampled && (allBelow digest && (allBelow input && allBelow output))
+
+unfoldable pub challengesAnswer : List ℕ → List ℕ → List ℕ → List ℕ → List ℕ → Answer
+challengesAnswer sampled digest input output lent =
+    cond (not (rightLengths sampled digest input output lent)) (Refused SliceLength)
+    (cond (not (allWordsBelow sampled digest input output)) (Refused WordNotBelowP)
+    Done)
+
+-- what the record that was lent holds then
+unfoldable pub challengesRecord : List ℕ → List ℕ → List ℕ → List ℕ → List ℕ → List ℕ
+unfolding challengesAnswer derivedRecord
+challengesRecord sampled digest input output lent =
+    onDone (challengesAnswer sampled digest input output lent) (derivedRecord sampled digest input output) lent

@@ -1,0 +1,4 @@
+-- The derived challenges.
+pub mod CrossTable
+pub mod LookupTable
+pub mod Derived
