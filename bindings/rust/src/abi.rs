@@ -25,6 +25,22 @@ mod raw {
             record: *mut u64,
             len: usize,
         ) -> u32;
+        pub fn tealbobbin_scan_maps(items: *mut u64, len: usize, chunk: usize) -> u32;
+        pub fn tealbobbin_scan_products(items: *mut u64, len: usize, chunk: usize) -> u32;
+        pub fn tealbobbin_scan_sums(items: *mut u64, len: usize, chunk: usize) -> u32;
+        pub fn tealbobbin_fill(
+            trace: *const u64,
+            tl: usize,
+            op_stack: *const u64,
+            ol: usize,
+            ram: *const u64,
+            rl: usize,
+            jump_stack: *const u64,
+            jl: usize,
+            table: *mut u64,
+            len: usize,
+        ) -> u32;
+        pub fn tealbobbin_pad(table: *mut u64, len: usize, table_len: usize) -> u32;
     }
 }
 
@@ -44,8 +60,17 @@ macro_rules! of_two_elements {
     )* };
 }
 
+macro_rules! scans {
+    ($($name:ident = $raw:ident),*) => { $(
+        pub fn $name(items: &mut [u64], chunk: usize) -> u32 {
+            unsafe { raw::$raw(items.as_mut_ptr(), items.len(), chunk) }
+        }
+    )* };
+}
+
 of_two_words!(base_add = tealbobbin_base_add, base_sub = tealbobbin_base_sub, base_mul = tealbobbin_base_mul);
 of_two_elements!(element_add = tealbobbin_element_add, element_sub = tealbobbin_element_sub, element_mul = tealbobbin_element_mul);
+scans!(scan_maps = tealbobbin_scan_maps, scan_products = tealbobbin_scan_products, scan_sums = tealbobbin_scan_sums);
 
 pub fn base_inverse(a: u64, out: &mut [u64]) -> u32 {
     unsafe { raw::tealbobbin_base_inverse(a, out.as_mut_ptr(), out.len()) }
@@ -79,4 +104,25 @@ pub fn challenges(sampled: &[u64], digest: &[u64], input: &[u64], output: &[u64]
             record.len(),
         )
     }
+}
+
+pub fn fill(trace: &[u64], op_stack: &[u64], ram: &[u64], jump_stack: &[u64], table: &mut [u64]) -> u32 {
+    unsafe {
+        raw::tealbobbin_fill(
+            trace.as_ptr(),
+            trace.len(),
+            op_stack.as_ptr(),
+            op_stack.len(),
+            ram.as_ptr(),
+            ram.len(),
+            jump_stack.as_ptr(),
+            jump_stack.len(),
+            table.as_mut_ptr(),
+            table.len(),
+        )
+    }
+}
+
+pub fn pad(table: &mut [u64], table_len: usize) -> u32 {
+    unsafe { raw::tealbobbin_pad(table.as_mut_ptr(), table.len(), table_len) }
 }

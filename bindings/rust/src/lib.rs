@@ -5,7 +5,9 @@ pub mod challenges;
 pub mod field;
 pub mod isa;
 pub mod plain;
+pub mod processor;
 pub mod random;
+pub mod running_arguments;
 
 /// Why an operation turned its input away. Nothing that was lent has changed then.
 #[derive(Debug, Clone, Copy, PartialEq, Eq)]

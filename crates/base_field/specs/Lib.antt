@@ -1,3 +1,4 @@
 -- What the operations on words give.
 pub mod Words
 pub mod Answers
+pub mod Totals

@@ -3,13 +3,17 @@ use mathlib.Core.Path.{refl}
 use Rattle.algebra.specs.Modulus as base
 use Rattle.algebra.specs.Modulus.{power}
 use Rattle.algebra.specs.Element as plain
-use Rattle.field.specs.Element.{product, inverse}
+use Rattle.field.specs.Element.{sum, difference, product, scale, inverse}
 use Rattle.isa.specs.Decode.{decoded}
 use Rattle.challenges.specs.LookupTable.{lookupTable}
+use Rattle.challenges.specs.CrossTable.{evaluation, runningProduct, runningSum}
+use Rattle.processor_entries.specs.Row.{weigh}
+use Rattle.processor_entries.specs.Entries.{inputEntries, outputEntries, instructionEntries, opStackEntries, ramEntries, ramAccesses, accessesFrom, jumpStackEntries, hashInputEntries, hashDigestEntries, spongeEntries, u32Lookups, u32Entries, clockEntries}
+use Rattle.processor_entries.specs.Columns.{rowEntries, entries, cell}
 use Rattle.cases.specs.Cases.{Cases}
 
 pub cases : Cases
-unfolding product inverse plain.product plain.inverse plain.cofactor plain.norm plain.scale base.inverse power decoded lookupTable
+unfolding sum difference product scale inverse plain.sum plain.difference plain.product plain.scale plain.cofactor plain.norm plain.inverse base.inverse power decoded lookupTable evaluation runningProduct runningSum weigh inputEntries outputEntries instructionEntries opStackEntries ramEntries ramAccesses accessesFrom jumpStackEntries hashInputEntries hashDigestEntries spongeEntries u32Lookups u32Entries clockEntries rowEntries entries cell
 cases =
     record {
       x-times-x² = refl;
@@ -23,4 +27,10 @@ cases =
       byte-1 = refl;
       byte-6 = refl;
       byte-255 = refl;
+      input-cell = refl;
+      output-cell = refl;
+      input-0 = refl;
+      input-6 = refl;
+      xor-enters = refl;
+      example-cells = refl;
     }

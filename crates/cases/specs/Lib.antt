@@ -1,2 +1,3 @@
 -- The proved table of cases.
+pub mod Tables
 pub mod Cases

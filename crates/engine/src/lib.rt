@@ -11,6 +11,9 @@ ghost use Rattle.field.specs.Answers.{elementAdd, elementSub, elementMul, eleme
 ghost use Rattle.refusal.specs.Number.{answerNumberOf};
 ghost use Rattle.isa.specs.Answer.{decodeAnswer};
 ghost use Rattle.challenges.specs.Derived.{challengesAnswer, challengesRecord};
+ghost use Rattle.running_arguments.specs.Answers.{scanAnswer, scanWords, scannedMaps, scannedProducts, scannedSums};
+ghost use Rattle.processor_table.specs.Fill.{fillAnswer, fillTable};
+ghost use Rattle.processor_table.specs.Pad.{padAnswer, padTable};
 ghost use Rattle.engine.specs.Decode.{decodeNumberInto, decodeInto};
 ghost use Rattle.engine.specs.Field.{baseNumberInto, baseInto, elementNumberInto, elementInto, elementNumber, elementOut, elementNumber2, elementOut2};
 
@@ -198,4 +201,53 @@ pub extern "C" fn tealbobbin_challenges(
     ensures written { λ r. ⌜ now (lent .exit) ≡ challengesRecord (now (sampled .entry)) (now (digest .entry)) (now (input .entry)) (now (output .entry)) (now (lent .entry)) ⌝ }
 {
     refusal::answer_number(Challenges::new(sampled, digest, input, output, lent))
+}
+
+// Scans in place: each item becomes what the items up to it come to. A map is six words, an element three.
+#[no_mangle]
+pub extern "C" fn tealbobbin_scan_maps(items: &mut [u64], chunk: usize) -> u32
+    ensures number { λ r. ⌜ r ≡ answerNumberOf (scanAnswer 6 (now (items .entry)) chunk) ⌝ }
+    ensures scanned { λ r. ⌜ now (items .exit) ≡ scanWords 6 (now (items .entry)) chunk (scannedMaps (now (items .entry))) ⌝ }
+{
+    refusal::answer_number(running_arguments::scan_maps(items, chunk))
+}
+
+#[no_mangle]
+pub extern "C" fn tealbobbin_scan_products(items: &mut [u64], chunk: usize) -> u32
+    ensures number { λ r. ⌜ r ≡ answerNumberOf (scanAnswer 3 (now (items .entry)) chunk) ⌝ }
+    ensures scanned { λ r. ⌜ now (items .exit) ≡ scanWords 3 (now (items .entry)) chunk (scannedProducts (now (items .entry))) ⌝ }
+{
+    refusal::answer_number(running_arguments::scan_products(items, chunk))
+}
+
+#[no_mangle]
+pub extern "C" fn tealbobbin_scan_sums(items: &mut [u64], chunk: usize) -> u32
+    ensures number { λ r. ⌜ r ≡ answerNumberOf (scanAnswer 3 (now (items .entry)) chunk) ⌝ }
+    ensures scanned { λ r. ⌜ now (items .exit) ≡ scanWords 3 (now (items .entry)) chunk (scannedSums (now (items .entry))) ⌝ }
+{
+    refusal::answer_number(running_arguments::scan_sums(items, chunk))
+}
+
+// Copies the trace and counts each row's multiplicity from the three lists of differences.
+#[no_mangle]
+pub extern "C" fn tealbobbin_fill(
+    trace: &[u64],
+    op_stack: &[u64],
+    ram: &[u64],
+    jump_stack: &[u64],
+    table: &mut [u64],
+) -> u32
+    ensures number { λ r. ⌜ r ≡ answerNumberOf (fillAnswer (now (trace .entry)) (now («op_stack» .entry)) (now (ram .entry)) (now («jump_stack» .entry)) (now (table .entry))) ⌝ }
+    ensures filled { λ r. ⌜ now (table .exit) ≡ fillTable (now (trace .entry)) (now («op_stack» .entry)) (now (ram .entry)) (now («jump_stack» .entry)) (now (table .entry)) ⌝ }
+{
+    refusal::answer_number(processor_table::fill(trace, op_stack, ram, jump_stack, table))
+}
+
+// Pads the rows from `table_len` on.
+#[no_mangle]
+pub extern "C" fn tealbobbin_pad(table: &mut [u64], table_len: usize) -> u32
+    ensures number { λ r. ⌜ r ≡ answerNumberOf (padAnswer (now (table .entry)) «table_len») ⌝ }
+    ensures padded { λ r. ⌜ now (table .exit) ≡ padTable (now (table .entry)) «table_len» ⌝ }
+{
+    refusal::answer_number(processor_table::pad(table, table_len))
 }

@@ -91,14 +91,14 @@ fn side_by_side(name: &str, calls: usize, mut ours: impl FnMut(), mut plainly: i
         best = best.min(time(1, calls, &mut ours));
         best_plain = best_plain.min(time(1, calls, &mut plainly));
     }
-    println!("{name:<28} {best:>10.2} {best_plain:>10.2} {:>8.2}", best / best_plain);
+    println!("{name:<34} {best:>10.2} {best_plain:>10.2} {:>8.2}", best / best_plain);
 }
 
 fn main() {
     let mut random = Random(7);
     let words: Vec<u64> = (0..4096).map(|_| random.word() % (P - 1) + 1).collect();
     let elements: Vec<Element> = (0..1024).map(|_| [random.word() % P, random.word() % P, random.word() % P]).collect();
-    println!("{:<28} {:>10} {:>10} {:>8}", "", "ours, ns", "plain, ns", "ratio");
+    println!("{:<34} {:>10} {:>10} {:>8}", "", "ours, ns", "plain, ns", "ratio");
 
     let products = |f: fn(u64, u64, &mut [u64]) -> u32| {
         let words = words.clone();
@@ -177,4 +177,22 @@ fn main() {
         }
     };
     side_by_side("element inverse", 1024, element_inverses(abi::element_inverse), element_inverses(plain_element_inverse));
+
+    const ITEMS: usize = 1 << 20;
+    const CHUNK: usize = 4096;
+    type Scan = (&'static str, usize, fn(&mut [u64], usize) -> u32, fn(&mut [u64]), fn(&mut [u64], usize));
+    let scans: [Scan; 3] = [
+        ("maps", 6, abi::scan_maps, plain::scan_maps, plain::scan_maps_by_chunks),
+        ("products", 3, abi::scan_products, plain::scan_products, plain::scan_products_by_chunks),
+        ("sums", 3, abi::scan_sums, plain::scan_sums, plain::scan_sums_by_chunks),
+    ];
+    for (name, width, scan, plainly, by_chunks) in scans {
+        let words: Vec<u64> = (0..ITEMS * width).map(|_| random.word() % P).collect();
+        let (mut ours, mut plain_words) = (words.clone(), words.clone());
+        let once = |ours: &mut Vec<u64>, chunk: usize| {
+            black_box(scan(ours, chunk));
+        };
+        side_by_side(&format!("scan of {name}"), ITEMS, || once(&mut ours, ITEMS), || plainly(&mut plain_words));
+        side_by_side(&format!("scan of {name}, 4096 a chunk"), ITEMS, || once(&mut ours, CHUNK), || by_chunks(&mut plain_words, CHUNK));
+    }
 }

@@ -5,6 +5,8 @@
 mod arithmetic;
 mod decoding;
 mod derived;
+mod scans;
+mod tables;
 mod tally;
 
 use tealbobbin::random::Random;
@@ -19,6 +21,8 @@ fn main() {
         arithmetic::compare(&mut random, count),
         decoding::compare(&mut random, count),
         derived::compare(&mut random, count / 100),
+        scans::compare(&mut random, count / 300),
+        tables::compare(&mut random, count / 100),
     ];
     std::process::exit(if right.iter().all(|&r| r) { 0 } else { 1 });
 }

@@ -1,0 +1,21 @@
+//! The main table of the processor: rows of 39 words, one after the other.
+
+use crate::{abi, answer, Refusal};
+
+/// The clock jump differences of the three memory-like tables.
+#[derive(Debug, Clone, Copy, Default)]
+pub struct Differences<'a> {
+    pub op_stack: &'a [u64],
+    pub ram: &'a [u64],
+    pub jump_stack: &'a [u64],
+}
+
+/// Copies the trace into the table's first rows and counts each row's multiplicity; later rows stay.
+pub fn fill(trace: &[u64], differences: Differences, table: &mut [u64]) -> Result<(), Refusal> {
+    answer(abi::fill(trace, differences.op_stack, differences.ram, differences.jump_stack, table), ())
+}
+
+/// Makes the rows from `table_len` on padding, and grows row 1's multiplicity by their number.
+pub fn pad(table: &mut [u64], table_len: usize) -> Result<(), Refusal> {
+    answer(abi::pad(table, table_len), ())
+}

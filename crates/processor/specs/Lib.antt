@@ -1,0 +1,2 @@
+-- What extension answers and leaves.
+pub mod Extend

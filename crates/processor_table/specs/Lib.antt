@@ -1,0 +1,5 @@
+-- What fill and pad leave in the main table.
+pub mod Rows
+pub mod Writes
+pub mod Fill
+pub mod Pad

@@ -1,0 +1,8 @@
+-- Laws that more than one proof cites.
+pub mod Items
+pub mod Scans
+pub mod Below
+pub mod Scanned
+pub mod InPlace
+pub mod Steps
+pub mod Answers

@@ -1,0 +1,4 @@
+-- What the scans leave.
+pub mod Scan
+pub mod Answers
+pub mod Maps

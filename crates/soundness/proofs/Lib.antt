@@ -1,0 +1,16 @@
+-- The proofs of the statements of specs/.
+pub mod Tests
+pub mod Lists
+pub mod Polynomials
+pub mod Evaluation
+pub mod Products
+pub mod Fractions
+pub mod Arguments
+pub mod Counts
+pub mod Counting
+pub mod Columns
+pub mod Accepted
+pub mod Cells
+pub mod Canonical
+pub mod Denominators
+pub mod Term3
