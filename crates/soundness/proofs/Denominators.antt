@@ -11,7 +11,8 @@ use Rattle.challenges.specs.Derived.{challengeAt}
 use Rattle.processor_table.specs.Rows.{rows}
 use Rattle.processor_table.proofs.Answers.{or-false}
 use Rattle.processor_entries.specs.Columns.{Column, input, output, instruction, opStack, ram, jumpStack, hashInput, hashDigest, sponge, u32, clock, Kind, evaluation, product, lookup, kindOf, Entry, indeterminateOf, weights, entries}
-use Rattle.processor.specs.Extend.{hasZero, zeroDenominator}
+use Rattle.processor_entries.specs.Contribution.{hasZero}
+use Rattle.processor.specs.Extend.{zeroDenominator}
 use Rattle.soundness.specs.Counting.{Defined}
 
 not-zero : (e : XFieldElement) → isZero e ≡ false → e ≢ zero

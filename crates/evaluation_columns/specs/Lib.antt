@@ -1,0 +1,2 @@
+-- What the entry functions are stated with.
+pub mod Weights

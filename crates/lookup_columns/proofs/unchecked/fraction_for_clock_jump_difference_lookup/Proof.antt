@@ -1,0 +1,59 @@
+-- No entry where the multiplicity is 0, else the clock under it.
+use borrow.Author.Needs.{needs}
+use borrow.Author.Tests.{eq-eqb, ne-eqb}
+use mathlib.Core.Path.{sym, _∙_}
+use native.Mathlib.Omega.{arith}
+use Rattle.processor_entries.specs.Entries.{clockEntries}
+use Rattle.processor_entries.specs.Contribution.{added}
+use Rattle.lookup_columns.proofs.Units.{lift-canonical}
+use Rattle.lookup_columns.proofs.Words.{word-below}
+use Rattle.lookup_columns.proofs.unchecked.fraction_for_clock_jump_difference_lookup.Statement.{
+  statement,
+}
+use Rattle.lookup_columns.proofs.unchecked.fraction_for_clock_jump_difference_lookup.Tie as tie
+
+slice-aggregate-cell : tie.Need-slice-aggregate-cell
+slice-aggregate-cell c = search needs
+
+cell-requires : tie.Need-cell-requires
+cell-requires c κs = search needs
+
+returns : tie.Need-returns
+unfolding clockEntries added
+returns c = simp (eq-eqb _ 0 (sym (c .before .cell .ensures) ∙ c .if1 .taken))
+
+slice-aggregate-cell-2 : tie.Need-slice-aggregate-cell-2
+slice-aggregate-cell-2 c = search needs
+
+cell-requires-2 : tie.Need-cell-requires-2
+cell-requires-2 c κs = search needs
+
+lift-requires : tie.Need-lift-requires
+lift-requires c κs = search needs
+
+fraction-requires : tie.Need-fraction-requires
+fraction-requires c κs =
+    let start = c .before .before .before .before .before .before in
+    let below = word-below (start .args .t1) (start .pre .0) in (
+      omega (arith, below 38),
+      (rw (c .lift .ensures, c .before .cell2 .ensures) (lift-canonical _ (below 0)), start .pre .1),
+    )
+
+returns-2 : tie.Need-returns-2
+unfolding clockEntries
+returns-2 c =
+    let if1 = c .before .before .before .before in
+    simp (ne-eqb _ 0 (λ e. if1 .if1 .left (if1 .before .cell .ensures ∙ e))) (cc)
+
+pub fraction-for-clock-jump-difference-lookup-spec : {M : Type 1} → statement M
+fraction-for-clock-jump-difference-lookup-spec =
+    tie.close
+    (tie.spec
+    slice-aggregate-cell
+    cell-requires
+    returns
+    slice-aggregate-cell-2
+    cell-requires-2
+    lift-requires
+    fraction-requires
+    returns-2)

@@ -1,0 +1,7 @@
+-- Laws that more than one proof cites.
+pub mod Weigh
+pub mod Products
+pub mod Change
+pub mod Entered
+pub mod Run
+pub mod Accesses

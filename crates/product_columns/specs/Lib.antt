@@ -1,0 +1,3 @@
+-- What the functions over a window answer.
+pub mod Rows
+pub mod Access
