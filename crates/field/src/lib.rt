@@ -2,7 +2,8 @@
 use base_field::P;
 use refusal::Refusal;
 ghost use mathlib.Core.Path.{_≡_};
-ghost use Rattle.field.specs.Element.{canonical, isZero};
+ghost use mathlib.Core.List.{[], _∷_};
+ghost use Rattle.field.specs.Element.{canonical, isZero, zero, one, X};
 ghost use Rattle.field.specs.Answers.{elementAdd, elementSub, elementMul, elementScale, elementInverse};
 
 // The same operations for callers that know their words to be below p.
@@ -33,6 +34,13 @@ impl XFieldElement {
         c1: 1,
         c2: 0,
     };
+
+    // The constants in order: their contract is what ties them to the definitions.
+    pub fn constants() -> [XFieldElement; 3]
+        ensures { λ r. ⌜ r ≡ zero ∷ one ∷ X ∷ [] ⌝ }
+    {
+        [XFieldElement::ZERO, XFieldElement::ONE, XFieldElement::X]
+    }
 }
 
 pub enum ElementAnswer {
