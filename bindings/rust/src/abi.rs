@@ -41,6 +41,17 @@ mod raw {
             len: usize,
         ) -> u32;
         pub fn tealbobbin_pad(table: *mut u64, len: usize, table_len: usize) -> u32;
+        pub fn tealbobbin_extend(
+            main: *const u64,
+            ml: usize,
+            challenges: *const u64,
+            cl: usize,
+            chunk: usize,
+            aux: *mut u64,
+            al: usize,
+            work: *mut u64,
+            wl: usize,
+        ) -> u32;
     }
 }
 
@@ -125,4 +136,20 @@ pub fn fill(trace: &[u64], op_stack: &[u64], ram: &[u64], jump_stack: &[u64], ta
 
 pub fn pad(table: &mut [u64], table_len: usize) -> u32 {
     unsafe { raw::tealbobbin_pad(table.as_mut_ptr(), table.len(), table_len) }
+}
+
+pub fn extend(main: &[u64], challenges: &[u64], chunk: usize, aux: &mut [u64], work: &mut [u64]) -> u32 {
+    unsafe {
+        raw::tealbobbin_extend(
+            main.as_ptr(),
+            main.len(),
+            challenges.as_ptr(),
+            challenges.len(),
+            chunk,
+            aux.as_mut_ptr(),
+            aux.len(),
+            work.as_mut_ptr(),
+            work.len(),
+        )
+    }
 }

@@ -1,4 +1,4 @@
-//! The main table of the processor: rows of 39 words, one after the other.
+//! The processor's main table, rows of 39 words one after the other, and its auxiliary table, rows of eleven elements.
 
 use crate::{abi, answer, Refusal};
 
@@ -18,4 +18,9 @@ pub fn fill(trace: &[u64], differences: Differences, table: &mut [u64]) -> Resul
 /// Makes the rows from `table_len` on padding, and grows row 1's multiplicity by their number.
 pub fn pad(table: &mut [u64], table_len: usize) -> Result<(), Refusal> {
     answer(abi::pad(table, table_len), ())
+}
+
+/// Writes the main table's eleven columns into `aux`, 33 words a row, by chunks of any positive length; `work`, 6 words a row, ends as zeros.
+pub fn extend(main: &[u64], challenges: &[u64], chunk: usize, aux: &mut [u64], work: &mut [u64]) -> Result<(), Refusal> {
+    answer(abi::extend(main, challenges, chunk, aux, work), ())
 }

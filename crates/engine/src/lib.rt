@@ -14,6 +14,7 @@ ghost use Rattle.challenges.specs.Derived.{challengesAnswer, challengesRecord};
 ghost use Rattle.running_arguments.specs.Answers.{scanAnswer, scanWords, scannedMaps, scannedProducts, scannedSums};
 ghost use Rattle.processor_table.specs.Fill.{fillAnswer, fillTable};
 ghost use Rattle.processor_table.specs.Pad.{padAnswer, padTable};
+ghost use Rattle.processor.specs.Extend.{extendAnswer, extendAux, extendWork};
 ghost use Rattle.engine.specs.Decode.{decodeNumberInto, decodeInto};
 ghost use Rattle.engine.specs.Field.{baseNumberInto, baseInto, elementNumberInto, elementInto, elementNumber, elementOut, elementNumber2, elementOut2};
 
@@ -250,4 +251,20 @@ pub extern "C" fn tealbobbin_pad(table: &mut [u64], table_len: usize) -> u32
     ensures padded { λ r. ⌜ now (table .exit) ≡ padTable (now (table .entry)) «table_len» ⌝ }
 {
     refusal::answer_number(processor_table::pad(table, table_len))
+}
+
+// Writes the eleven columns of the auxiliary table, and zeros in `work`.
+#[no_mangle]
+pub extern "C" fn tealbobbin_extend(
+    main: &[u64],
+    challenges: &[u64],
+    chunk: usize,
+    aux: &mut [u64],
+    work: &mut [u64],
+) -> u32
+    ensures number { λ r. ⌜ r ≡ answerNumberOf (extendAnswer (now (main .entry)) (now (challenges .entry)) chunk (now (aux .entry)) (now (work .entry))) ⌝ }
+    ensures extended { λ r. ⌜ now (aux .exit) ≡ extendAux (now (main .entry)) (now (challenges .entry)) chunk (now (aux .entry)) (now (work .entry)) ⌝ }
+    ensures cleared { λ r. ⌜ now (work .exit) ≡ extendWork (now (main .entry)) (now (challenges .entry)) chunk (now (aux .entry)) (now (work .entry)) ⌝ }
+{
+    refusal::answer_number(processor::extend(main, challenges, chunk, aux, work))
 }

@@ -1,5 +1,4 @@
--- Laws of the maps and of the words that they absorb.
-pub mod Absorbing
+-- Laws of the words that the maps absorb.
 pub mod Words
 pub mod Instructions
 pub mod Weighing

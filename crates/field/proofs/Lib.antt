@@ -2,3 +2,6 @@
 pub mod Below
 pub mod Laws
 pub mod Totals
+pub mod Units
+pub mod Division
+pub mod Words

@@ -1,7 +1,4 @@
 -- Laws of the fractions.
-pub mod Units
-pub mod Words
+pub mod Single
 pub mod Weigh
 pub mod U32
-pub mod Division
-pub mod Fractions

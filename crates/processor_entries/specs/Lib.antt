@@ -3,3 +3,4 @@ pub mod Row
 pub mod Entries
 pub mod Contribution
 pub mod Columns
+pub mod Denominators

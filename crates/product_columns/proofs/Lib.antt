@@ -1,6 +1,5 @@
 -- Laws that more than one proof cites.
 pub mod Weigh
-pub mod Products
 pub mod Change
 pub mod Entered
 pub mod Run

@@ -5,19 +5,10 @@ use Prim.Native.Nat.{ℕ, suc, _<_}
 use native.Mathlib.Omega.{arith}
 use lib.ListN.{length, drop, getD, drop-of-length-le}
 use lib.Seq.{drop-cons}
-use Rattle.field.specs.Element.{Canonical, zero, sum, scale}
+use Rattle.field.specs.Element.{zero, sum, scale}
 use Rattle.field.specs.declared.XFieldElement.{XFieldElement}
-use Rattle.field.proofs.Laws.{sum-canonical, scale-canonical, sum-zero}
+use Rattle.field.proofs.Laws.{scale-canonical, sum-zero}
 use Rattle.processor_entries.specs.Row.{weigh}
-
-zero-canonical : Canonical zero
-zero-canonical = omega arith
-
-pub weigh-canonical : (weights : List XFieldElement) (words : List ℕ) → Canonical (weigh weights words)
-unfolding weigh
-weigh-canonical [] words = zero-canonical
-weigh-canonical (weight ∷ weights) [] = zero-canonical
-weigh-canonical (weight ∷ weights) (word ∷ words) = sum-canonical (scale word weight) (weigh weights words)
 
 module _ (weights : List XFieldElement) (words : List ℕ) where
   abbrev pub term : ℕ → XFieldElement

@@ -2,8 +2,6 @@
 use mathlib.Core.Bool.{cond}
 use mathlib.Core.List.{List}
 use Prim.Native.Nat.{ℕ}
-use Rattle.isa.specs.declared.Influence.{Influence}
-use Rattle.isa.specs.declared.Influence.the-variants.{Grows, Shrinks, Keeps}
 use Rattle.isa.specs.declared.Decoded.{Decoded}
 use Rattle.isa.specs.declared.Decoded.the-variants.{Nothing}
 use Rattle.processor_entries.specs.Row.{isPadding, instructionOf}
@@ -11,9 +9,3 @@ use Rattle.processor_entries.specs.Row.{isPadding, instructionOf}
 -- the instruction whose entries the op stack and the RAM have
 abbrev pub previousInstruction : List ℕ → List ℕ → Decoded
 previousInstruction prev curr = cond (isPadding curr) Nothing (instructionOf prev)
-
--- `shorter`, of the references themselves
-abbrev pub shorterRow {ℓ} : {A : Type ℓ} → Influence → A → A → A
-shorterRow (Grows n) prev curr = prev
-shorterRow (Shrinks n) prev curr = curr
-shorterRow Keeps prev curr = curr

@@ -2,16 +2,16 @@
 use mathlib.Core.Path.{_≡_}
 use mathlib.Core.Bool.{true, cond, _||_}
 use mathlib.Core.List.{List, [], _∷_, map, reverse}
-use Prim.Native.Nat.{ℕ, zero, suc, _+_, _*_, _<_}
+use Prim.Native.Nat.{ℕ, zero, suc, _*_, _<_}
 use lib.Dec.{eqb, lit<}
 use lib.ListN.{getD, drop}
 use Rattle.algebra.specs.Modulus.{p}
 use Rattle.algebra.specs.Polynomial.{All}
 use Rattle.base_field.specs.Words.{allBelow}
 use Rattle.base_field.proofs.Below.{first-below}
-use Rattle.field.specs.Element.{Canonical, lift, elementAt, scale}
+use Rattle.field.specs.Element.{Canonical, lift}
 use Rattle.field.specs.declared.XFieldElement.{XFieldElement}
-use Rattle.field.proofs.Laws.{sum-canonical}
+use Rattle.field.proofs.Units.{lift-canonical}
 use Rattle.air.specs.Count.{upTo}
 use Rattle.air.specs.MainColumn.{CLK, CI, ST0, CLOCK-JUMP-DIFFERENCE-LOOKUP-MULTIPLICITY}
 use Rattle.isa.specs.Instruction.{opcodeOf, argumentOf, influenceOf}
@@ -19,6 +19,7 @@ use Rattle.isa.specs.declared.Instruction.{Instruction}
 use Rattle.isa.specs.declared.Decoded.{Decoded}
 use Rattle.isa.specs.declared.Decoded.the-variants.{Read, Nothing}
 use Rattle.processor_table.specs.Rows.{rowAt}
+use Rattle.processor_entries.proofs.Weigh.{weigh-canonical}
 use Rattle.processor_entries.specs.Row.{cell, cells, isPadding, instructionOf, weigh}
 use Rattle.processor_entries.specs.Entries.{one-over, ifRead, ifOpcode, inputEntries, outputEntries, instructionEntries, shorter, change, opStackEntry, opStackEntries, ramEntry, ramAccesses, ramEntries, jumpStackEntries, merkles, merkleInput, hashInputEntries, hashDigestEntries, spongeEntries, u32Lookups, u32Entries, clockEntries}
 use Rattle.processor_entries.specs.Columns.{Column, input, output, instruction, opStack, ram, jumpStack, hashInput, hashDigest, sponge, u32, clock, Kind, evaluation, product, lookup, kindOf, Entry, ofWindow, rowEntries, entries}
@@ -32,22 +33,10 @@ words-below [] h = tt
 words-below (w ∷ ws) h = let parts = first-below w ws h in (parts .0, words-below ws (parts .1))
 
 -- past the end stands 0
-pub word-below : (ws : List ℕ) → Words ws → (i : ℕ) → getD ws i 0 < p
+word-below : (ws : List ℕ) → Words ws → (i : ℕ) → getD ws i 0 < p
 word-below [] h i = lit< tt
 word-below (w ∷ ws) h zero = h .0
 word-below (w ∷ ws) h (suc i) = word-below ws (h .1) i
-
-pub element-canonical : (ws : List ℕ) → Words ws → (i : ℕ) → Canonical (elementAt ws i)
-element-canonical ws h i = record { below0 = word-below ws h i; below1 = word-below ws h (i + 1); below2 = word-below ws h (i + 2) }
-
-lift-canonical : (w : ℕ) → w < p → Canonical (lift w)
-lift-canonical w h = record { below0 = h; below1 = lit< tt; below2 = lit< tt }
-
-weigh-canonical : (weights : List XFieldElement) (words : List ℕ) → Canonical (weigh weights words)
-unfolding weigh
-weigh-canonical [] words = lift-canonical 0 (lit< tt)
-weigh-canonical (weight ∷ weights) [] = lift-canonical 0 (lit< tt)
-weigh-canonical (weight ∷ weights) (word ∷ words) = sum-canonical (scale word weight) (weigh weights words)
 
 weighed : (weights : List XFieldElement) (words : List ℕ) → All Canonical (weigh weights words ∷ [])
 weighed weights words = (weigh-canonical weights words, tt)

@@ -1,23 +1,19 @@
 -- Where extension finds no zero denominator, every fraction of the three lookup columns is defined.
-use mathlib.Core.Path.{_≡_, refl, ap, sym, _∙_}
-use mathlib.Core.Logic.{_≢_}
+use mathlib.Core.Path.{_≡_, refl}
 use mathlib.Core.Bool.{Bool, true, false, true≢false, _||_}
 use mathlib.Core.List.{List, [], _∷_}
 use Prim.Native.Nat.{ℕ}
-use Rattle.field.specs.Element.{zero, difference, isZero}
+use Rattle.field.specs.Element.{difference, isZero}
 use Rattle.field.specs.declared.XFieldElement.{XFieldElement}
+use Rattle.field.proofs.Division.{not-zero}
 use Rattle.challenges.specs.CrossTable.{Fraction}
 use Rattle.challenges.specs.Derived.{challengeAt}
 use Rattle.processor_table.specs.Rows.{rows}
 use Rattle.processor_table.proofs.Answers.{or-false}
 use Rattle.processor_entries.specs.Columns.{Column, input, output, instruction, opStack, ram, jumpStack, hashInput, hashDigest, sponge, u32, clock, Kind, evaluation, product, lookup, kindOf, Entry, indeterminateOf, weights, entries}
 use Rattle.processor_entries.specs.Contribution.{hasZero}
-use Rattle.processor.specs.Extend.{zeroDenominator}
+use Rattle.processor_entries.specs.Denominators.{zeroUpTo, zeroDenominator}
 use Rattle.soundness.specs.Counting.{Defined}
-
-not-zero : (e : XFieldElement) → isZero e ≡ false → e ≢ zero
-unfolding isZero
-not-zero e h z = true≢false (ap isZero (sym z) ∙ h)
 
 defined : (x : XFieldElement) (fs : List Fraction) → hasZero x fs ≡ false → Defined x fs
 unfolding hasZero
@@ -49,7 +45,7 @@ module _ (main challenges : List ℕ) where
       → (hasZero (indeterminate instruction) (all instruction) ≡ false)
       × (hasZero (indeterminate u32) (all u32) ≡ false)
       × (hasZero (indeterminate clock) (all clock) ≡ false)
-  unfolding zeroDenominator
+  unfolding zeroUpTo
   none-zero h =
       none-of (hasZero (indeterminate instruction) (all instruction)) (hasZero (indeterminate u32) (all u32)) (hasZero (indeterminate clock) (all clock)) h
 

@@ -9,8 +9,8 @@ pub mod Arguments
 pub mod Counts
 pub mod Counting
 pub mod Columns
-pub mod Accepted
 pub mod Cells
 pub mod Canonical
 pub mod Denominators
 pub mod Term3
+pub mod Calls

@@ -21,9 +21,10 @@ use Rattle.soundness.specs.Term3.{placeOf, put, entriesOf, Ends, Differ,
 use Rattle.soundness.proofs.Lists.{All-imply, All-both, map-same}
 use Rattle.soundness.proofs.Columns.{all-sampled}
 use Rattle.soundness.proofs.Counting.{evaluation-bound, product-bound, lookup-bound}
-use Rattle.soundness.proofs.Accepted.{Accepted, passed, written}
+use Rattle.processor.proofs.Accepted.{Accepted, passed, written}
 use Rattle.soundness.proofs.Cells.{cell-at}
-use Rattle.soundness.proofs.Canonical.{Words, words-below, element-canonical, CanonicalEntry, entries-canonical}
+use Rattle.field.proofs.Units.{element-canonical}
+use Rattle.soundness.proofs.Canonical.{Words, words-below, CanonicalEntry, entries-canonical}
 use Rattle.soundness.proofs.Denominators.{DefinedAt, all-defined}
 
 put-own : (i : ℕ) (x : XFieldElement) (sampled : ℕ → XFieldElement) → put i x sampled i ≡ x
@@ -54,7 +55,7 @@ module _ (c : Column) (sampled : ℕ → XFieldElement) (x : XFieldElement) (mai
       (λ j h. ends .given j (h .0) ∙ put-other (indeterminateOf c) x sampled j (h .1)) (weightsOf c)
       (All-both (λ j. j < SAMPLE-COUNT) (λ j. j ≢ indeterminateOf c) (weightsOf c) (all-sampled c .weights-sampled) (all-sampled c .weights-other)))
 
-  tests : Accepted main (ends .challenges)
+  tests : Accepted main (ends .challenges) (ends .aux) (ends .work)
   tests = passed main (ends .challenges) (ends .chunk) (ends .aux) (ends .work) (ends .accepted)
 
   -- the column's argument over all entries
@@ -69,7 +70,7 @@ module _ (c : Column) (sampled : ℕ → XFieldElement) (x : XFieldElement) (mai
   gives =
       record {
         main-words = words-below main (tests .main-below);
-        canonical = subst Canonical own (element-canonical (ends .challenges) (words-below (ends .challenges) (tests .challenges-below)) (indeterminateOf c * 3));
+        canonical = subst Canonical own (element-canonical (ends .challenges) (tests .challenges-below) (indeterminateOf c * 3));
         defined = subst (λ ws. DefinedAt (kindOf c) x (entries c ws main (rows main))) same-weights
             (subst (λ y. DefinedAt (kindOf c) y (entries c (weights c (ends .challenges)) main (rows main))) own
             (all-defined main (ends .challenges) c (tests .no-zero)));

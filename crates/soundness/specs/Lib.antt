@@ -2,3 +2,4 @@
 pub mod Counting
 pub mod Term3
 pub mod Columns
+pub mod Calls

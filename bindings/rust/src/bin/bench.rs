@@ -7,7 +7,52 @@ use std::time::Instant;
 use tealbobbin::abi;
 use tealbobbin::field::{Element, P};
 use tealbobbin::plain;
+use tealbobbin::plain::batched::extend_batched;
+use tealbobbin::plain::extension::{column::*, AUX_WIDTH, WIDTH};
 use tealbobbin::random::Random;
+
+const CHUNK: usize = 4096;
+
+/// Opcodes and how often they stand in a table of usual instructions.
+const USUAL: [(u64, u64); 34] = [
+    (33, 30), // dup
+    (1, 22),  // push
+    (3, 14),  // pop
+    (17, 12), // pick
+    (25, 12), // place
+    (41, 10), // swap
+    (57, 12), // read_mem
+    (11, 8),  // write_mem
+    (42, 10), // add
+    (65, 10), // addi
+    (50, 6),  // mul
+    (58, 6),  // eq
+    (2, 7),   // skiz
+    (49, 8),  // call
+    (16, 7),  // return
+    (24, 4),  // recurse
+    (10, 2),  // assert
+    (9, 2),   // divine
+    (4, 3),   // split
+    (6, 3),   // lt
+    (14, 2),  // and
+    (22, 1),  // xor
+    (12, 1),  // log_2_floor
+    (30, 1),  // pow
+    (20, 1),  // div_mod
+    (18, 1),  // hash
+    (44, 1),  // merkle_step_mem
+    (34, 1),  // sponge_absorb
+    (48, 1),  // sponge_absorb_mem
+    (56, 1),  // sponge_squeeze
+    (66, 2),  // xx_add
+    (74, 2),  // xx_mul
+    (80, 2),  // xx_dot_step
+    (73, 1),  // read_io
+];
+
+/// The instructions with the most entries: sponge_absorb, sponge_squeeze, sponge_absorb_mem and merkle_step_mem.
+const COSTLY: [(u64, u64); 4] = [(34, 1), (56, 1), (48, 1), (44, 1)];
 
 #[inline(never)]
 fn plain_base_mul(a: u64, b: u64, out: &mut [u64]) -> u32 {
@@ -71,6 +116,44 @@ fn plain_element_inverse(a: &[u64], out: &mut [u64]) -> u32 {
     }
     out.copy_from_slice(&plain::element_inverse(&a));
     0
+}
+
+#[inline(never)]
+fn plain_extend(main: &[u64], challenges: &[u64], aux: &mut [u64]) -> u32 {
+    if main.len() % WIDTH != 0 || aux.len() != main.len() / WIDTH * AUX_WIDTH || challenges.len() != 189 {
+        return 1;
+    }
+    if main.iter().chain(challenges).any(|&w| w >= P) {
+        return 2;
+    }
+    if extend_batched(main, challenges, aux) {
+        0
+    } else {
+        6
+    }
+}
+
+/// Random rows with these instructions; one in `every` has a multiplicity.
+fn table(random: &mut Random, rows: usize, mix: &[(u64, u64)], every: u64) -> Vec<u64> {
+    let opcodes: Vec<u64> = mix.iter().flat_map(|&(opcode, share)| (0..share).map(move |_| opcode)).collect();
+    let mut main: Vec<u64> = (0..rows * WIDTH).map(|_| random.word() % P).collect();
+    for (index, row) in main.chunks_exact_mut(WIDTH).enumerate() {
+        row[CLK] = index as u64;
+        row[IS_PADDING] = 0;
+        row[CI] = opcodes[random.word() as usize % opcodes.len()];
+        row[NIA] = random.word() % 5 + 1;
+        row[MULTIPLICITY] = if random.word() % every == 0 { random.word() % 9 + 1 } else { 0 };
+    }
+    main
+}
+
+/// Usual instructions, then halt and a quarter of padding.
+fn usual_table(random: &mut Random, rows: usize) -> Vec<u64> {
+    let mut main = table(random, rows, &USUAL, 4);
+    let table_len = rows / 4 * 3;
+    main[(table_len - 1) * WIDTH + CI] = 0;
+    plain::pad(&mut main, table_len);
+    main
 }
 
 /// The best time of `runs` runs, in nanoseconds a call.
@@ -179,7 +262,6 @@ fn main() {
     side_by_side("element inverse", 1024, element_inverses(abi::element_inverse), element_inverses(plain_element_inverse));
 
     const ITEMS: usize = 1 << 20;
-    const CHUNK: usize = 4096;
     type Scan = (&'static str, usize, fn(&mut [u64], usize) -> u32, fn(&mut [u64]), fn(&mut [u64], usize));
     let scans: [Scan; 3] = [
         ("maps", 6, abi::scan_maps, plain::scan_maps, plain::scan_maps_by_chunks),
@@ -194,5 +276,26 @@ fn main() {
         };
         side_by_side(&format!("scan of {name}"), ITEMS, || once(&mut ours, ITEMS), || plainly(&mut plain_words));
         side_by_side(&format!("scan of {name}, 4096 a chunk"), ITEMS, || once(&mut ours, CHUNK), || by_chunks(&mut plain_words, CHUNK));
+    }
+
+    let challenges: Vec<u64> = (0..189).map(|_| random.word() % P).collect();
+    let room = |rows: usize| (vec![0; rows * AUX_WIDTH], vec![0; rows * 6]);
+    const ROWS: usize = 1 << 16;
+    let tables = [
+        ("extend a row, usual instructions", usual_table(&mut random, ROWS)),
+        ("extend a row, costly instructions", table(&mut random, ROWS, &COSTLY, 1)),
+    ];
+    for (name, main) in tables {
+        let ((mut aux, mut work), (mut plain_aux, _)) = (room(ROWS), room(ROWS));
+        let ours = || assert_eq!(abi::extend(&main, &challenges, CHUNK, &mut aux, &mut work), 0);
+        side_by_side(name, ROWS, ours, || assert_eq!(plain_extend(&main, &challenges, &mut plain_aux), 0));
+        assert!(aux == plain_aux);
+    }
+    for power in [12, 16, 18, 20] {
+        let rows = 1 << power;
+        let main = usual_table(&mut random, rows);
+        let (mut aux, mut work) = room(rows);
+        let best = time(5, rows, || assert_eq!(abi::extend(&main, &challenges, CHUNK, &mut aux, &mut work), 0));
+        println!("{:<34} {best:>10.2}", format!("extend a row, 2^{power} rows"));
     }
 }

@@ -5,6 +5,7 @@
 mod arithmetic;
 mod decoding;
 mod derived;
+mod extension;
 mod scans;
 mod tables;
 mod tally;
@@ -23,6 +24,7 @@ fn main() {
         derived::compare(&mut random, count / 100),
         scans::compare(&mut random, count / 300),
         tables::compare(&mut random, count / 100),
+        extension::compare(&mut random, count / 3),
     ];
     std::process::exit(if right.iter().all(|&r| r) { 0 } else { 1 });
 }

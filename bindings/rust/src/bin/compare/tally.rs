@@ -24,9 +24,12 @@ impl Tally {
     pub fn check(&mut self, what: &str, input: &[u64], before: &[u64], got: (u32, &[u64]), number: u32, words: &[u64]) {
         self.compared += 1;
         self.refused[number as usize] += 1;
-        let right = if number == 0 { got.1 == words } else { got.1 == before };
-        if got.0 != number || !right {
-            self.differ(format!("{what} {:?}: got {} {:?}, expected {number} {words:?}", &input[..input.len().min(16)], got.0, got.1));
+        let wanted = if number == 0 { words } else { before };
+        if got.0 != number || got.1 != wanted {
+            let at = got.1.iter().zip(wanted).position(|(g, w)| g != w).unwrap_or(0);
+            let from = |words: &[u64]| words.iter().skip(at).take(16).copied().collect::<Vec<u64>>();
+            let input = &input[..input.len().min(16)];
+            self.differ(format!("{what} {input:?}: got {} {:?}, expected {number} {:?}, from word {at} on", got.0, from(got.1), from(wanted)));
         }
     }
 

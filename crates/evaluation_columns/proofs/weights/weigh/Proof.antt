@@ -6,7 +6,7 @@ use lib.ListN.{length, drop}
 use Rattle.field.specs.Element.{Canonical, sum}
 use Rattle.field.proofs.Laws.{sum-canonical, scale-canonical}
 use Rattle.processor_entries.specs.Row.{weigh}
-use Rattle.evaluation_columns.proofs.Absorbing.{zero-canonical}
+use Rattle.field.proofs.Units.{zero-canonical}
 use Rattle.evaluation_columns.proofs.Weighing.{weigh-start, weigh-more, weigh-done}
 use Rattle.evaluation_columns.proofs.weights.weigh.Statement.{statement}
 use Rattle.evaluation_columns.proofs.weights.weigh.Tie as tie

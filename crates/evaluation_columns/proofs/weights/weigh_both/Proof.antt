@@ -1,7 +1,8 @@
 -- The second run takes the weights behind those of the first.
 use borrow.Author.Needs.{needs}
 use lib.Seq.{drop-drop}
-use Rattle.evaluation_columns.proofs.Weighing.{weigh-canonical, weigh-append}
+use Rattle.processor_entries.proofs.Weigh.{weigh-canonical}
+use Rattle.evaluation_columns.proofs.Weighing.{weigh-append}
 use Rattle.evaluation_columns.proofs.weights.weigh_both.Statement.{statement}
 use Rattle.evaluation_columns.proofs.weights.weigh_both.Tie as tie
 

@@ -1,6 +1,6 @@
 -- By the unit laws.
 use borrow.Author.Needs.{needs}
-use Rattle.lookup_columns.proofs.Units.{single}
+use Rattle.lookup_columns.proofs.Single.{single}
 use Rattle.lookup_columns.proofs.unchecked.fraction.Statement.{statement}
 use Rattle.lookup_columns.proofs.unchecked.fraction.Tie as tie
 

@@ -5,8 +5,8 @@ use mathlib.Core.Path.{sym, _∙_}
 use native.Mathlib.Omega.{arith}
 use Rattle.processor_entries.specs.Entries.{clockEntries}
 use Rattle.processor_entries.specs.Contribution.{added}
-use Rattle.lookup_columns.proofs.Units.{lift-canonical}
-use Rattle.lookup_columns.proofs.Words.{word-below}
+use Rattle.field.proofs.Units.{lift-canonical}
+use Rattle.base_field.proofs.Below.{word-below}
 use Rattle.lookup_columns.proofs.unchecked.fraction_for_clock_jump_difference_lookup.Statement.{
   statement,
 }

@@ -2,7 +2,7 @@
 use borrow.Author.Needs.{needs}
 use mathlib.Core.List.{[]}
 use lib.ListN.{getD}
-use Rattle.lookup_columns.proofs.Words.{word-below}
+use Rattle.base_field.proofs.Below.{word-below}
 use Rattle.lookup_columns.proofs.U32.{split, with-result, xor, one-operand, div-mod, merkle, none}
 use Rattle.lookup_columns.proofs.unchecked.fraction_for_u32_lookup.Statement.{statement}
 use Rattle.lookup_columns.proofs.unchecked.fraction_for_u32_lookup.Tie as tie

@@ -1,7 +1,7 @@
 -- By the unit laws.
 use borrow.Author.Needs.{needs}
 use Rattle.field.proofs.Laws.{difference-canonical}
-use Rattle.lookup_columns.proofs.Units.{double}
+use Rattle.lookup_columns.proofs.Single.{double}
 use Rattle.lookup_columns.proofs.unchecked.two_fractions.Statement.{statement}
 use Rattle.lookup_columns.proofs.unchecked.two_fractions.Tie as tie
 

@@ -2,7 +2,8 @@
 use borrow.Author.Needs.{needs}
 use mathlib.Core.Path.{sym, _∙_}
 use Rattle.field.specs.Element.{zero}
-use Rattle.product_columns.proofs.Weigh.{weigh-canonical, weigh-next, but-first}
+use Rattle.processor_entries.proofs.Weigh.{weigh-canonical}
+use Rattle.product_columns.proofs.Weigh.{weigh-next, but-first}
 use Rattle.product_columns.proofs.compress.compress5.Statement.{statement}
 use Rattle.product_columns.proofs.compress.compress5.Tie as tie
 

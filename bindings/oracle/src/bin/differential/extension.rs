@@ -1,0 +1,201 @@
+//! Extension, with the original's panics as refusals.
+
+use oracle::rows::{ARGUMENTS, OPCODES, OTHERS, REALISTIC, WORST, any_row, any_table, challenges, mixed, row};
+use tealbobbin::abi::extend;
+use tealbobbin::field::{Element, P};
+use tealbobbin::plain::extension::{COLUMNS, Challenges, Kind};
+use tealbobbin::random::Random;
+
+use crate::LONG;
+use crate::tally::Tally;
+
+const WIDTH: usize = 39;
+
+/// A chunk length: small, around the number of items, any, larger than all.
+pub fn chunk(random: &mut Random, items: usize) -> usize {
+    let any = random.word() as usize;
+    let around = [1, 2, 3, 4, items.max(2) - 1, items.max(1), items + 1, any % (items + 2) + 1, 1024, usize::MAX];
+    around[any % around.len()]
+}
+
+/// The elements that a row enters into a column.
+fn symbols(column: usize, previous: Option<&[u64]>, current: &[u64], challenges: &[u64]) -> Vec<Element> {
+    let challenges = Challenges(challenges);
+    match COLUMNS[column].1 {
+        Kind::Evaluation(entries) | Kind::Product(entries) => entries(previous, current, challenges).unwrap_or_default(),
+        Kind::Lookup(entries) => entries(previous, current, challenges).unwrap_or_default().iter().map(|entry| entry.1).collect(),
+    }
+}
+
+struct Case<'a> {
+    main: &'a [u64],
+    challenges: &'a [u64],
+    chunk: usize,
+    aux: usize,
+    work: usize,
+}
+
+fn case<'a>(main: &'a [u64], challenges: &'a [u64], chunk: usize, aux: usize, work: usize) -> Case<'a> {
+    Case { main, challenges, chunk, aux, work }
+}
+
+impl Case<'_> {
+    /// The refusals that the original knows nothing of, and that of no rows.
+    fn refusal(&self) -> u32 {
+        let rows = self.main.len() / WIDTH;
+        if self.main.len() % WIDTH != 0 || self.aux != 33 * rows || self.challenges.len() != 189 || self.work != 6 * rows {
+            1
+        } else if rows == 0 || rows > LONG {
+            3
+        } else if self.chunk == 0 {
+            5
+        } else if self.main.iter().chain(self.challenges).any(|&word| word >= P) {
+            2
+        } else {
+            0
+        }
+    }
+
+    fn check(&self, tally: &mut Tally, random: &mut Random) {
+        let (mut number, mut expected) = (self.refusal(), vec![]);
+        if number == 0 {
+            match oracle::extend(self.main, self.challenges) {
+                Ok(aux) => expected = [aux, vec![0; self.work]].concat(),
+                Err(_) => number = 6,
+            }
+        }
+        let before: Vec<u64> = (0..self.aux + self.work).map(|_| random.any()).collect();
+        let mut after = before.clone();
+        let (aux, work) = after.split_at_mut(self.aux);
+        let got = extend(self.main, self.challenges, self.chunk, aux, work);
+        tally.check("extend", &[self.main.len() as u64, self.chunk as u64], &before, (got, &after), number, &expected);
+    }
+}
+
+fn check(tally: &mut Tally, random: &mut Random, main: &[u64], challenges: &[u64]) {
+    let rows = main.len() / WIDTH;
+    let chunk = chunk(random, rows);
+    case(main, challenges, chunk, 33 * rows, 6 * rows).check(tally, random);
+}
+
+fn any_check(tally: &mut Tally, random: &mut Random, main: &[u64]) {
+    let challenges = challenges(random);
+    check(tally, random, main, &challenges);
+}
+
+/// Each instruction and each word that is none, with arguments of each class, under each mark of padding before and after.
+fn windows(tally: &mut Tally, random: &mut Random) {
+    for ci in OPCODES.into_iter().chain(OTHERS) {
+        for nia in ARGUMENTS {
+            for [previous, current] in [0, 1, 2].map(|a| [0, 1, P - 1].map(|b| [a, b])).concat() {
+                let after = any_row(random);
+                let main = [row(random, ci, nia, previous), row(random, after[3], after[4], current)].concat();
+                any_check(tally, random, &main);
+            }
+        }
+    }
+}
+
+/// Each instruction after each.
+fn pairs(tally: &mut Tally, random: &mut Random) {
+    for first in OPCODES {
+        for second in OPCODES {
+            let rows: [Vec<u64>; 3] = [first, second, first].map(|ci| {
+                let nia = random.word() % 5 + 1;
+                row(random, ci, nia, 0)
+            });
+            any_check(tally, random, &rows.concat());
+        }
+    }
+}
+
+/// A column's indeterminate set to one of its entries: a zero denominator or a factor 0. Or to what a row that is silent would
+/// enter into the instruction or clock column.
+fn zeros(tally: &mut Tally, random: &mut Random) {
+    let rows = random.word() as usize % 20 + 1;
+    let mut main = any_table(random, rows);
+    let mut challenges = challenges(random);
+    let column = random.word() as usize % 11;
+    let at = random.word() as usize % rows;
+    let silent = random.word() % 4 == 0;
+    let mut speaking = main[at * WIDTH..(at + 1) * WIDTH].to_vec();
+    if silent {
+        (speaking[1], speaking[38]) = (0, 1);
+        (main[at * WIDTH + 1], main[at * WIDTH + 38]) = (1, 0);
+    }
+    let previous = (at > 0).then(|| &main[(at - 1) * WIDTH..at * WIDTH]);
+    let found = symbols(column, previous, &speaking, &challenges);
+    if found.is_empty() {
+        return;
+    }
+    let element = found[random.word() as usize % found.len()];
+    challenges[3 * COLUMNS[column].0..][..3].copy_from_slice(&element);
+    check(tally, random, &main, &challenges);
+}
+
+/// Lengths of slices, heights, chunk lengths and words that are refused.
+fn refusals(tally: &mut Tally, random: &mut Random) {
+    let challenges = challenges(random);
+    let main = any_table(random, 3);
+    for words in 0..4 * WIDTH {
+        let main = any_table(random, 4);
+        case(&main[..words], &challenges, 1, 33 * (words / WIDTH), 6 * (words / WIDTH)).check(tally, random);
+    }
+    for length in 180..200 {
+        let challenges: Vec<u64> = (0..length).map(|_| random.base()).collect();
+        case(&main, &challenges, 1, 99, 18).check(tally, random);
+    }
+    for aux in (0..110).chain([132, 198]) {
+        case(&main, &challenges, 1, aux, 18).check(tally, random);
+    }
+    for work in (0..25).chain([36]) {
+        case(&main, &challenges, 1, 99, work).check(tally, random);
+    }
+    case(&main, &challenges, 0, 99, 18).check(tally, random);
+    case(&[], &challenges, 0, 0, 0).check(tally, random);
+    for bad in [P, u64::MAX] {
+        for place in 0..main.len() {
+            let mut main = main.clone();
+            main[place] = bad;
+            case(&main, &challenges, place % 2, 99, 18).check(tally, random);
+        }
+        for place in 0..189 {
+            let mut challenges = challenges.clone();
+            challenges[place] = bad;
+            case(&main, &challenges, place % 2, 99, 18).check(tally, random);
+        }
+    }
+}
+
+/// Windows of every kind, tables of 1 to 256 rows, tall ones around the original's own chunks and up to 2^16, zero
+/// denominators and refusals.
+pub fn compare(random: &mut Random, count: u64) -> bool {
+    let mut tally = Tally::new("extend");
+    if oracle::extend(&[], &challenges(random)).is_ok() {
+        tally.differ("the original extends a table without rows".to_string());
+    }
+    for _ in 0..count.div_ceil(1_000) {
+        windows(&mut tally, random);
+        pairs(&mut tally, random);
+        refusals(&mut tally, random);
+        let rows = random.word() as usize % (1 << 16) + 1;
+        let main = any_table(random, rows);
+        any_check(&mut tally, random, &main);
+    }
+    for i in 0..count {
+        let main = any_table(random, i as usize % 256 + 1);
+        any_check(&mut tally, random, &main);
+        for _ in 0..10 {
+            zeros(&mut tally, random);
+        }
+    }
+    for rows in [1023, 1024, 1025, 4095, 4096, 4097, 5000, 16_384, 65_536] {
+        let main = any_table(random, rows);
+        any_check(&mut tally, random, &main);
+        for mix in [REALISTIC, WORST] {
+            let main = mixed(random, mix, rows, rows / 4, 3);
+            any_check(&mut tally, random, &main);
+        }
+    }
+    tally.report()
+}

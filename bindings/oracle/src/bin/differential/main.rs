@@ -1,0 +1,37 @@
+//! Compares the library with the original, word by word: prints each difference, and exits with 1 if there is one.
+//!
+//!     differential [SEED] [COUNT]
+
+mod claims;
+mod decoding;
+mod extension;
+mod scans;
+mod tables;
+#[path = "../../../../rust/src/bin/compare/tally.rs"]
+mod tally;
+mod values;
+
+use tealbobbin::random::Random;
+
+const LONG: usize = 4_194_304;
+
+fn words(random: &mut Random, n: usize) -> Vec<u64> {
+    (0..n).map(|_| random.base()).collect()
+}
+
+fn main() {
+    let mut arguments = std::env::args().skip(1).map(|word| word.parse::<u64>().expect("a number"));
+    let seed = arguments.next().unwrap_or(1);
+    let count = arguments.next().unwrap_or(80_000);
+    let mut random = Random(seed);
+    println!("differential: seed {seed}, count {count}");
+    let right = [
+        values::compare(),
+        decoding::compare(&mut random),
+        claims::compare(&mut random, count),
+        scans::compare(&mut random, count),
+        tables::compare(&mut random, count),
+        extension::compare(&mut random, count),
+    ];
+    std::process::exit(if right.iter().all(|&r| r) { 0 } else { 1 });
+}

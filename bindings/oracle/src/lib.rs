@@ -1,0 +1,193 @@
+//! The original's processor table, compiled from its own files: what the library is compared with and raced against.
+//! Lent slices hold words below p, whole rows of 39 words, and elements of three words, as at the library's own functions.
+
+// what the originals have beyond fill, pad, extension, challenges and scans
+#![allow(dead_code)]
+
+extern crate assorted as arbitrary;
+extern crate assorted as itertools;
+extern crate assorted as num_traits;
+extern crate assorted as strum;
+
+use std::cell::Cell;
+use std::panic::{AssertUnwindSafe, catch_unwind};
+use std::sync::Once;
+
+use isa::instruction::Instruction;
+use ndarray::prelude::*;
+use num_traits::{ConstOne, ConstZero};
+use twenty_first::prelude::*;
+
+use crate::ndarray_helper::par_zeros;
+use crate::prelude::Claim;
+use crate::table::running_arguments::{par_running_affine_maps, par_running_product, par_running_sum};
+
+include!(concat!(env!("OUT_DIR"), "/root.rs"));
+
+mod aet;
+mod profiler;
+pub mod rows;
+mod table;
+
+mod prelude {
+    use twenty_first::prelude::*;
+
+    pub struct Claim {
+        pub program_digest: Digest,
+        pub input: Vec<BFieldElement>,
+        pub output: Vec<BFieldElement>,
+    }
+}
+
+pub const MAIN_WIDTH: usize = 39;
+pub const AUX_WIDTH: usize = 11;
+
+/// The original panicked.
+#[derive(Debug, Copy, Clone, Eq, PartialEq)]
+pub struct Panicked;
+
+thread_local! {
+    static CATCHING: Cell<bool> = const { Cell::new(false) };
+}
+
+/// Runs the original; a panic says nothing on the terminal.
+fn caught<T>(run: impl FnOnce() -> T) -> Result<T, Panicked> {
+    static QUIET: Once = Once::new();
+    QUIET.call_once(|| {
+        let loud = std::panic::take_hook();
+        std::panic::set_hook(Box::new(move |panic| {
+            if !CATCHING.get() {
+                loud(panic)
+            }
+        }));
+    });
+    CATCHING.set(true);
+    let answer = catch_unwind(AssertUnwindSafe(run));
+    CATCHING.set(false);
+    answer.map_err(|_| Panicked)
+}
+
+fn base(words: &[u64]) -> Vec<BFieldElement> {
+    words.iter().map(|&word| bfe!(word)).collect()
+}
+
+fn elements(words: &[u64]) -> Vec<XFieldElement> {
+    words.chunks_exact(3).map(|c| XFieldElement::new([bfe!(c[0]), bfe!(c[1]), bfe!(c[2])])).collect()
+}
+
+fn words(elements: &[XFieldElement]) -> Vec<u64> {
+    elements.iter().flat_map(|element| element.coefficients.map(|c| c.value())).collect()
+}
+
+/// The opcode of the instruction that the row's CI and NIA stand for, if they stand for one.
+pub fn decode(ci: u64, nia: u64) -> Option<u64> {
+    let instruction = Instruction::try_from(bfe!(ci)).ok()?;
+    let read = if instruction.arg().is_some() { instruction.change_arg(bfe!(nia)).ok()? } else { instruction };
+    Some(read.opcode().into())
+}
+
+/// All 63 challenges, from the sampled ones and the claim.
+pub fn challenges(sampled: &[u64], digest: &[u64; 5], input: &[u64], output: &[u64]) -> Result<Vec<u64>, Panicked> {
+    let claim = Claim { program_digest: Digest(digest.map(BFieldElement::from)), input: base(input), output: base(output) };
+    caught(|| words(&challenges::Challenges::new(elements(sampled), &claim).challenges))
+}
+
+/// The table after fill.
+pub fn fill(trace: &[u64], op_stack: &[u64], ram: &[u64], jump_stack: &[u64], table: &[u64]) -> Result<Vec<u64>, Panicked> {
+    let mut table = Main::new(table, Order::Rows);
+    caught(|| table::fill(table.0.view_mut(), Main::new(trace, Order::Rows).0, [op_stack, ram, jump_stack].map(base)))?;
+    Ok(table.words())
+}
+
+/// The table after pad.
+pub fn pad(table: &[u64], table_len: usize) -> Result<Vec<u64>, Panicked> {
+    let mut table = Main::new(table, Order::Rows);
+    caught(|| table::pad(table.0.view_mut(), table_len))?;
+    Ok(table.words())
+}
+
+/// The auxiliary table.
+pub fn extend(main: &[u64], challenges: &[u64]) -> Result<Vec<u64>, Panicked> {
+    let mut extension = Extension::new(main, challenges, Order::Rows);
+    caught(|| extension.run())?;
+    Ok(extension.words())
+}
+
+/// Each map (a, b) becomes the one that applies those up to it: b is what it makes of 0, a + b what it makes of 1.
+pub fn scan_maps(items: &[u64]) -> Vec<u64> {
+    let maps: Vec<_> = elements(items).chunks_exact(2).map(|map| (map[0], map[1])).collect();
+    let of_zero = par_running_affine_maps(maps.clone(), XFieldElement::ZERO);
+    let of_one = par_running_affine_maps(maps, XFieldElement::ONE);
+    of_one.iter().zip(of_zero).flat_map(|(&one, zero)| words(&[one - zero, zero])).collect()
+}
+
+pub fn scan_products(items: &[u64]) -> Vec<u64> {
+    let factors: Vec<_> = elements(items).into_iter().map(Some).collect();
+    words(&par_running_product(&factors, XFieldElement::ONE))
+}
+
+pub fn scan_sums(items: &[u64]) -> Vec<u64> {
+    words(&par_running_sum(elements(items), XFieldElement::ZERO))
+}
+
+/// How a table lies in memory: the library's are row by row, the original's column by column.
+#[derive(Debug, Copy, Clone, Eq, PartialEq)]
+pub enum Order {
+    Rows,
+    Columns,
+}
+
+impl Order {
+    fn zeros<T: ConstZero + Copy + Send + Sync>(self, rows: usize, columns: usize) -> Array2<T> {
+        match self {
+            Order::Rows => par_zeros((rows, columns)),
+            Order::Columns => par_zeros((rows, columns).f()),
+        }
+    }
+}
+
+/// A main table as the original holds it.
+struct Main(Array2<BFieldElement>);
+
+impl Main {
+    fn new(words: &[u64], order: Order) -> Main {
+        let mut table = order.zeros(words.len() / MAIN_WIDTH, MAIN_WIDTH);
+        let rows = Array2::from_shape_vec((words.len() / MAIN_WIDTH, MAIN_WIDTH), base(words)).expect("whole rows");
+        table.view_mut().assign(&rows);
+        Main(table)
+    }
+
+    fn words(&self) -> Vec<u64> {
+        let rows = 0..self.0.nrows();
+        rows.flat_map(|row| (0..MAIN_WIDTH).map(move |column| self.0.view()[[row, column]].value())).collect()
+    }
+}
+
+/// A main table, challenges, and an auxiliary table to extend into, all as the original holds them.
+pub struct Extension {
+    main: Main,
+    challenges: challenges::Challenges,
+    aux: Array2<XFieldElement>,
+}
+
+impl Extension {
+    pub fn new(main: &[u64], challenges: &[u64], order: Order) -> Extension {
+        let challenges = elements(challenges).try_into().expect("63 challenges");
+        Extension {
+            main: Main::new(main, order),
+            challenges: challenges::Challenges { challenges },
+            aux: order.zeros(main.len() / MAIN_WIDTH, AUX_WIDTH),
+        }
+    }
+
+    /// Extends; panics where the original does.
+    pub fn run(&mut self) {
+        table::extend(self.main.0.view(), self.aux.view_mut(), &self.challenges);
+    }
+
+    /// The auxiliary table, row by row.
+    pub fn words(&self) -> Vec<u64> {
+        let rows = 0..self.aux.nrows();
+        rows.flat_map(|row| (0..AUX_WIDTH).flat_map(move |column| words(&[self.aux.view()[[row, column]]]))).collect()
+    }
+}

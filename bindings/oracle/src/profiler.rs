@@ -1,0 +1,7 @@
+//! No profiler.
+
+macro_rules! profiler {
+    ($($what:tt)*) => {};
+}
+
+pub(crate) use profiler;

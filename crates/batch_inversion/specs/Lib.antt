@@ -1,0 +1,3 @@
+-- What a batch of inversions leaves.
+pub mod Inverted
+pub mod Passes

@@ -1,0 +1,2 @@
+-- Laws of the lookup columns' steps.
+pub mod Lookups

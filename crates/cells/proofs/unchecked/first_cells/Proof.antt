@@ -1,0 +1,13 @@
+-- Over no entries each argument is where it starts.
+use mathlib.Core.Path.{refl}
+use Rattle.challenges.specs.CrossTable.{evaluation, runningProduct, runningSum}
+use Rattle.column_steps.specs.Step.{running}
+use Rattle.cells.proofs.unchecked.first_cells.Statement.{statement}
+use Rattle.cells.proofs.unchecked.first_cells.Tie as tie
+
+returns : tie.Need-returns
+unfolding running evaluation runningProduct runningSum
+returns c = refl
+
+pub first-cells-spec : {M : Type 1} → statement M
+first-cells-spec = tie.close (tie.spec returns)

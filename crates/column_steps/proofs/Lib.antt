@@ -1,0 +1,2 @@
+-- The running value of a column, row by row.
+pub mod Steps

@@ -1,0 +1,2 @@
+-- One row of a column.
+pub mod Step

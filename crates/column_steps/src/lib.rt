@@ -1,0 +1,2 @@
+// What a window makes of the running value of an evaluation or product column.
+pub mod unchecked;

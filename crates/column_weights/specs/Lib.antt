@@ -1,0 +1,2 @@
+-- What the columns take for granted.
+pub mod Ready

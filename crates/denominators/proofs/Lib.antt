@@ -1,0 +1,4 @@
+-- Laws of the denominators, and of loops over a table's windows.
+pub mod Zeros
+pub mod Items
+pub mod Windows

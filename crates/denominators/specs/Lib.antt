@@ -1,0 +1,3 @@
+-- The denominators of a table, row by row.
+pub mod ReadyTable
+pub mod Items

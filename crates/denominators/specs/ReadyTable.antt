@@ -1,0 +1,12 @@
+-- The challenges and the table, once their words are known to be below p.
+use mathlib.Core.Path.{_≡_}
+use mathlib.Core.Bool.{true}
+use mathlib.Core.List.{List}
+use Prim.Native.Nat.{ℕ}
+use lib.ListN.{length}
+use Rattle.base_field.specs.Words.{allBelow}
+
+pub record ReadyTable (challenges main : List ℕ) : Type 0 where
+  pub whole : length challenges ≡ 189
+  pub challenges-below : allBelow challenges ≡ true
+  pub main-below : allBelow main ≡ true

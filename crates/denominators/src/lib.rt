@@ -1,0 +1,2 @@
+// The denominators of a table's fractions, row by row.
+pub mod unchecked;

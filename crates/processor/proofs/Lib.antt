@@ -1,0 +1,3 @@
+-- Laws of extension.
+pub mod Accepted
+pub mod Cells

@@ -1,0 +1,2 @@
+-- Laws of the denominators.
+pub mod Joint

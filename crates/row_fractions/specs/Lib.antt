@@ -1,0 +1,2 @@
+-- What a window brings to the three lookup columns.
+pub mod Fractions

@@ -1,0 +1,38 @@
+-- A call's contract is an equation with the definitions that term 3 speaks of.
+use mathlib.Core.Path.{_≡_, sym, ap, _∙_}
+use mathlib.Core.List.{List}
+use Prim.Native.Nat.{ℕ, _+_, _-_, _*_}
+use denote.Ref.{now}
+use Rattle.algebra.specs.Polynomial.{All}
+use Rattle.field.specs.Element.{elementAt}
+use Rattle.field.specs.declared.XFieldElement.{XFieldElement}
+use Rattle.processor_table.specs.Rows.{rows}
+use Rattle.processor_entries.specs.Columns.{Column}
+use Rattle.processor.specs.Extend.{extendAnswer, extendAux}
+use Rattle.soundness.specs.Term3.{placeOf, Ends}
+use Rattle.soundness.specs.Calls.{Call, Term3OfCalls}
+use Rattle.soundness.proofs.Lists.{All-imply}
+use Rattle.soundness.proofs.Term3.{term3}
+
+module _ {c : Column} {sampled : ℕ → XFieldElement} {x : XFieldElement} {main : List ℕ} {v : XFieldElement} (call : Call c sampled x main v) where
+  ends : Ends c sampled x main v
+  ends =
+      let challenges = now (call .arguments .1 .0) in
+      let chunk = call .arguments .1 .1 .0 in
+      let aux = now (call .arguments .1 .1 .1 .0) in
+      let work = now (call .arguments .1 .1 .1 .1 .0) in
+      record {
+        challenges = challenges;
+        chunk = chunk;
+        aux = aux;
+        work = work;
+        given = call .given;
+        accepted = ap (λ m. extendAnswer m challenges chunk aux work) (sym (call .main-lent)) ∙ sym (call .contract .0) ∙ call .accepted;
+        last = ap (λ l. elementAt l ((rows main - 1) * 33 + placeOf c * 3)) (ap (λ m. extendAux m challenges chunk aux work) (sym (call .main-lent)) ∙ sym (call .contract .1 .0)) ∙ call .last;
+      }
+
+pub term3-of-calls : Term3OfCalls
+term3-of-calls c sampled main₁ main₂ differ xs distinct calls =
+    term3 c sampled main₁ main₂ differ xs distinct
+    (All-imply (λ x. (v : XFieldElement) × Call c sampled x main₁ v × Call c sampled x main₂ v) (λ x. (v : XFieldElement) × Ends c sampled x main₁ v × Ends c sampled x main₂ v)
+    (λ x h. (h .0, ends (h .1), ends (h .2))) xs calls)
