@@ -1,11 +1,13 @@
 // The C ABI. A slice is a pointer and a count. Every function answers 0 or the number of the refusal,
 // and writes nothing on a refusal.
 use base_field::BaseAnswer;
+use batch::OpenAnswer;
 use challenges::Challenges;
 use field::ElementAnswer;
 use isa::DecodeAnswer;
 use isa::Decoded;
 ghost use mathlib.Core.Path.{_≡_};
+ghost use lib.ListN.{length};
 ghost use Rattle.base_field.specs.Answers.{baseAdd, baseSub, baseMul, baseInverse};
 ghost use Rattle.field.specs.Answers.{elementAdd, elementSub, elementMul, elementScale, elementInverse};
 ghost use Rattle.refusal.specs.Number.{answerNumberOf};
@@ -15,6 +17,9 @@ ghost use Rattle.running_arguments.specs.Answers.{scanAnswer, scanWords, scanne
 ghost use Rattle.processor_table.specs.Fill.{fillAnswer, fillTable};
 ghost use Rattle.processor_table.specs.Pad.{padAnswer, padTable};
 ghost use Rattle.processor.specs.Extend.{extendAnswer, extendAux, extendWork};
+ghost use Rattle.batch_commands.specs.Format.{ROW, OP-STACK, RAM, JUMP-STACK, SAMPLED, DIGEST, INPUT, OUTPUT};
+ghost use Rattle.batch.specs.Open.{openNumber, openSlice};
+ghost use Rattle.engine.specs.Open.{openInto, countsInto};
 ghost use Rattle.engine.specs.Decode.{decodeNumberInto, decodeInto};
 ghost use Rattle.engine.specs.Field.{baseNumberInto, baseInto, elementNumberInto, elementInto, elementNumber, elementOut, elementNumber2, elementOut2};
 
@@ -267,4 +272,66 @@ pub extern "C" fn tealbobbin_extend(
     ensures cleared { λ r. ⌜ now (work .exit) ≡ extendWork (now (main .entry)) (now (challenges .entry)) chunk (now (aux .entry)) (now (work .entry)) ⌝ }
 {
     refusal::answer_number(processor::extend(main, challenges, chunk, aux, work))
+}
+
+// Hands the counts of an opened batch out through a slice of six words.
+fn put_counts(answer: OpenAnswer, counts: &mut [u64]) -> u32
+    requires { ⌜ length (now counts) ≡ 6 ⌝ }
+    ensures number { λ r. ⌜ r ≡ openNumber answer ⌝ }
+    ensures counts { λ r. ⌜ now (counts .exit) ≡ countsInto answer (now (counts .entry)) ⌝ }
+{
+    match answer {
+        OpenAnswer::Refused(refusal) => refusal::number(refusal),
+        OpenAnswer::Opened(opened) => {
+            counts[0] = opened.rows as u64;
+            counts[1] = opened.op_stack as u64;
+            counts[2] = opened.ram as u64;
+            counts[3] = opened.jump_stack as u64;
+            counts[4] = opened.input as u64;
+            counts[5] = opened.output as u64;
+            0
+        }
+    }
+}
+
+// Opens a batch: rows and words into the slices, how many into `counts`.
+#[no_mangle]
+pub extern "C" fn tealbobbin_open(
+    bytes: &[u8],
+    trace: &mut [u64],
+    op_stack: &mut [u64],
+    ram: &mut [u64],
+    jump_stack: &mut [u64],
+    sampled: &mut [u64],
+    digest: &mut [u64],
+    input: &mut [u64],
+    output: &mut [u64],
+    counts: &mut [u64],
+) -> u32
+    ensures number { λ r. ⌜ r ≡ openNumber (openInto (now (counts .entry)) (now (bytes .entry)) (length (now (trace .entry))) (length (now («op_stack» .entry))) (length (now (ram .entry))) (length (now («jump_stack» .entry))) (length (now (sampled .entry))) (length (now (digest .entry))) (length (now (input .entry))) (length (now (output .entry)))) ⌝ }
+    ensures trace { λ r. ⌜ now (trace .exit) ≡ openSlice (openInto (now (counts .entry)) (now (bytes .entry)) (length (now (trace .entry))) (length (now («op_stack» .entry))) (length (now (ram .entry))) (length (now («jump_stack» .entry))) (length (now (sampled .entry))) (length (now (digest .entry))) (length (now (input .entry))) (length (now (output .entry)))) ROW (now (bytes .entry)) (now (trace .entry)) ⌝ }
+    ensures op_stack { λ r. ⌜ now («op_stack» .exit) ≡ openSlice (openInto (now (counts .entry)) (now (bytes .entry)) (length (now (trace .entry))) (length (now («op_stack» .entry))) (length (now (ram .entry))) (length (now («jump_stack» .entry))) (length (now (sampled .entry))) (length (now (digest .entry))) (length (now (input .entry))) (length (now (output .entry)))) OP-STACK (now (bytes .entry)) (now («op_stack» .entry)) ⌝ }
+    ensures ram { λ r. ⌜ now (ram .exit) ≡ openSlice (openInto (now (counts .entry)) (now (bytes .entry)) (length (now (trace .entry))) (length (now («op_stack» .entry))) (length (now (ram .entry))) (length (now («jump_stack» .entry))) (length (now (sampled .entry))) (length (now (digest .entry))) (length (now (input .entry))) (length (now (output .entry)))) RAM (now (bytes .entry)) (now (ram .entry)) ⌝ }
+    ensures jump_stack { λ r. ⌜ now («jump_stack» .exit) ≡ openSlice (openInto (now (counts .entry)) (now (bytes .entry)) (length (now (trace .entry))) (length (now («op_stack» .entry))) (length (now (ram .entry))) (length (now («jump_stack» .entry))) (length (now (sampled .entry))) (length (now (digest .entry))) (length (now (input .entry))) (length (now (output .entry)))) JUMP-STACK (now (bytes .entry)) (now («jump_stack» .entry)) ⌝ }
+    ensures sampled { λ r. ⌜ now (sampled .exit) ≡ openSlice (openInto (now (counts .entry)) (now (bytes .entry)) (length (now (trace .entry))) (length (now («op_stack» .entry))) (length (now (ram .entry))) (length (now («jump_stack» .entry))) (length (now (sampled .entry))) (length (now (digest .entry))) (length (now (input .entry))) (length (now (output .entry)))) SAMPLED (now (bytes .entry)) (now (sampled .entry)) ⌝ }
+    ensures digest { λ r. ⌜ now (digest .exit) ≡ openSlice (openInto (now (counts .entry)) (now (bytes .entry)) (length (now (trace .entry))) (length (now («op_stack» .entry))) (length (now (ram .entry))) (length (now («jump_stack» .entry))) (length (now (sampled .entry))) (length (now (digest .entry))) (length (now (input .entry))) (length (now (output .entry)))) DIGEST (now (bytes .entry)) (now (digest .entry)) ⌝ }
+    ensures input { λ r. ⌜ now (input .exit) ≡ openSlice (openInto (now (counts .entry)) (now (bytes .entry)) (length (now (trace .entry))) (length (now («op_stack» .entry))) (length (now (ram .entry))) (length (now («jump_stack» .entry))) (length (now (sampled .entry))) (length (now (digest .entry))) (length (now (input .entry))) (length (now (output .entry)))) INPUT (now (bytes .entry)) (now (input .entry)) ⌝ }
+    ensures output { λ r. ⌜ now (output .exit) ≡ openSlice (openInto (now (counts .entry)) (now (bytes .entry)) (length (now (trace .entry))) (length (now («op_stack» .entry))) (length (now (ram .entry))) (length (now («jump_stack» .entry))) (length (now (sampled .entry))) (length (now (digest .entry))) (length (now (input .entry))) (length (now (output .entry)))) OUTPUT (now (bytes .entry)) (now (output .entry)) ⌝ }
+    ensures counts { λ r. ⌜ now (counts .exit) ≡ countsInto (openInto (now (counts .entry)) (now (bytes .entry)) (length (now (trace .entry))) (length (now («op_stack» .entry))) (length (now (ram .entry))) (length (now («jump_stack» .entry))) (length (now (sampled .entry))) (length (now (digest .entry))) (length (now (input .entry))) (length (now (output .entry)))) (now (counts .entry)) ⌝ }
+{
+    if counts.len() != 6 {
+        return 1;
+    }
+    let answer = batch::open(
+        bytes,
+        trace,
+        op_stack,
+        ram,
+        jump_stack,
+        sampled,
+        digest,
+        input,
+        output,
+    );
+    put_counts(answer, counts)
 }

@@ -14,7 +14,7 @@ use Rattle.refusal.specs.declared.Refusal.the-variants.{SliceLength, RowCount, 
 use Rattle.base_field.specs.Words.{allBelow}
 use Rattle.base_field.proofs.Below.{and-true}
 use Rattle.processor_table.specs.Rows.{wholeRows, rows}
-use Rattle.processor_table.proofs.Answers.{past, or-false}
+use Rattle.refusal.proofs.Answers.{past, or-false}
 use Rattle.processor_entries.specs.Denominators.{zeroDenominator}
 use Rattle.denominators.specs.ReadyTable.{ReadyTable}
 use Rattle.processor.specs.Extend.{rightLengths, extendAnswer, extended, extendAux, extendWork}

@@ -14,7 +14,7 @@ use Rattle.refusal.specs.declared.Answer.the-variants.{Done, Refused}
 use Rattle.refusal.specs.declared.Refusal.the-variants.{SliceLength, RowCount, WordNotBelowP, DifferenceTooLarge}
 use Rattle.processor_table.specs.Rows.{wholeRows, rows}
 use Rattle.processor_table.specs.Fill.{allUnder, fillAnswer}
-use Rattle.processor_table.proofs.Answers.{or-false, past}
+use Rattle.refusal.proofs.Answers.{or-false, past}
 
 -- what is needed to write
 pub record Accepted (trace op-stack ram jump-stack table : List ℕ) : Type 0 where

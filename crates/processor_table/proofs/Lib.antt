@@ -1,6 +1,5 @@
 -- Laws that more than one proof cites.
 pub mod Rows
-pub mod Answers
 pub mod Padded
 pub mod Differences
 pub mod Accepted

@@ -14,7 +14,7 @@ use Rattle.refusal.specs.declared.Refusal.the-variants.{RowCount, SliceLength}
 use Rattle.processor_table.specs.Rows.{wholeRows, rows, rowAt, rowsFrom}
 use Rattle.processor_table.specs.Writes.{withRows}
 use Rattle.processor_table.specs.Pad.{padAnswer, paddingRow, paddedRow}
-use Rattle.processor_table.proofs.Answers.{or-false, past}
+use Rattle.refusal.proofs.Answers.{or-false, past}
 use Rattle.processor_table.proofs.Rows.{split-rows, same-rows, rows-of}
 
 -- a table whose shape is not refused

@@ -9,7 +9,7 @@ use Rattle.field.proofs.Division.{not-zero}
 use Rattle.challenges.specs.CrossTable.{Fraction}
 use Rattle.challenges.specs.Derived.{challengeAt}
 use Rattle.processor_table.specs.Rows.{rows}
-use Rattle.processor_table.proofs.Answers.{or-false}
+use Rattle.refusal.proofs.Answers.{or-false}
 use Rattle.processor_entries.specs.Columns.{Column, input, output, instruction, opStack, ram, jumpStack, hashInput, hashDigest, sponge, u32, clock, Kind, evaluation, product, lookup, kindOf, Entry, indeterminateOf, weights, entries}
 use Rattle.processor_entries.specs.Contribution.{hasZero}
 use Rattle.processor_entries.specs.Denominators.{zeroUpTo, zeroDenominator}

@@ -5,7 +5,7 @@ use mathlib.Core.Bool.{and-false, or-true}
 use mathlib.Core.Logic.{⊎-elim}
 use mathlib.Core.Path.{_≡_, sym, _∙_}
 use Rattle.processor_table.specs.Rows.{rows}
-use Rattle.processor_table.proofs.Answers.{is-long}
+use Rattle.refusal.proofs.Answers.{is-long}
 use Rattle.processor.specs.Extend.{extendAnswer}
 use Rattle.processor.proofs.Accepted.{lengths, byRows, byChunk, byWords, byDenominators}
 use Rattle.processor.proofs.extend_answer.Statement.{statement}

@@ -9,7 +9,7 @@ use lib.Dec.{eqb}
 use lib.ListN.{length}
 use Rattle.processor_table.specs.Rows.{rows}
 use Rattle.processor_table.specs.Fill.{fillAnswer}
-use Rattle.processor_table.proofs.Answers.{is-long}
+use Rattle.refusal.proofs.Answers.{is-long}
 use Rattle.processor_table.proofs.Accepted.{byRows, byWords, byDifferences}
 use Rattle.processor_table.proofs.fill_answer.Statement.{statement}
 use Rattle.processor_table.proofs.fill_answer.Tie as tie

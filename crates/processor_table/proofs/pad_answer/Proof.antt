@@ -12,7 +12,7 @@ use Rattle.base_field.specs.Words.{allBelow}
 use Rattle.refusal.specs.declared.Answer.the-variants.{Done, Refused}
 use Rattle.refusal.specs.declared.Refusal.the-variants.{WordNotBelowP}
 use Rattle.processor_table.specs.Pad.{padAnswer}
-use Rattle.processor_table.proofs.Answers.{is-long}
+use Rattle.refusal.proofs.Answers.{is-long}
 use Rattle.processor_table.proofs.pad_answer.Statement.{statement}
 use Rattle.processor_table.proofs.pad_answer.Tie as tie
 

@@ -1,0 +1,4 @@
+-- What opening a batch answers and leaves.
+pub mod Commands
+pub mod Reading
+pub mod Open

@@ -1,0 +1,116 @@
+// The reader of batches: it decides on its answer first, and writes only then.
+use refusal::Refusal;
+ghost use mathlib.Core.Path.{_≡_};
+ghost use lib.ListN.{length};
+ghost use Rattle.batch_commands.specs.Format.{ROW, OP-STACK, RAM, JUMP-STACK, SAMPLED, DIGEST, INPUT, OUTPUT};
+ghost use Rattle.batch.specs.Open.{rightLengths, openAnswer, openSlice};
+
+mod opener;
+mod reader;
+
+pub struct Counts {
+    pub rows: usize,
+    pub op_stack: usize,
+    pub ram: usize,
+    pub jump_stack: usize,
+    pub input: usize,
+    pub output: usize,
+}
+
+pub enum OpenAnswer {
+    Opened(Counts),
+    Refused(Refusal),
+}
+
+// Longer batches are turned away unread.
+const MAX_LEN: usize = 16384;
+
+fn right_lengths(
+    trace: usize,
+    op_stack: usize,
+    ram: usize,
+    jump_stack: usize,
+    sampled: usize,
+    digest: usize,
+    input: usize,
+    output: usize,
+) -> bool
+    ensures { λ r. ⌜ r ≡ rightLengths trace «op_stack» ram «jump_stack» sampled digest input output ⌝ }
+{
+    if trace != 1248 {
+        return false;
+    }
+    if op_stack != 128 {
+        return false;
+    }
+    if ram != 128 {
+        return false;
+    }
+    if jump_stack != 128 {
+        return false;
+    }
+    if sampled != 177 {
+        return false;
+    }
+    if digest != 5 {
+        return false;
+    }
+    if input != 64 {
+        return false;
+    }
+    output == 64
+}
+
+// Reads the batch into the slices, or writes nothing where it refuses.
+pub fn open(
+    batch: &[u8],
+    trace: &mut [u64],
+    op_stack: &mut [u64],
+    ram: &mut [u64],
+    jump_stack: &mut [u64],
+    sampled: &mut [u64],
+    digest: &mut [u64],
+    input: &mut [u64],
+    output: &mut [u64],
+) -> OpenAnswer
+    ensures answer { λ r. ⌜ r ≡ openAnswer (now (batch .entry)) (length (now (trace .entry))) (length (now («op_stack» .entry))) (length (now (ram .entry))) (length (now («jump_stack» .entry))) (length (now (sampled .entry))) (length (now (digest .entry))) (length (now (input .entry))) (length (now (output .entry))) ⌝ }
+    ensures trace { λ r. ⌜ now (trace .exit) ≡ openSlice r ROW (now (batch .entry)) (now (trace .entry)) ⌝ }
+    ensures op_stack { λ r. ⌜ now («op_stack» .exit) ≡ openSlice r OP-STACK (now (batch .entry)) (now («op_stack» .entry)) ⌝ }
+    ensures ram { λ r. ⌜ now (ram .exit) ≡ openSlice r RAM (now (batch .entry)) (now (ram .entry)) ⌝ }
+    ensures jump_stack { λ r. ⌜ now («jump_stack» .exit) ≡ openSlice r JUMP-STACK (now (batch .entry)) (now («jump_stack» .entry)) ⌝ }
+    ensures sampled { λ r. ⌜ now (sampled .exit) ≡ openSlice r SAMPLED (now (batch .entry)) (now (sampled .entry)) ⌝ }
+    ensures digest { λ r. ⌜ now (digest .exit) ≡ openSlice r DIGEST (now (batch .entry)) (now (digest .entry)) ⌝ }
+    ensures input { λ r. ⌜ now (input .exit) ≡ openSlice r INPUT (now (batch .entry)) (now (input .entry)) ⌝ }
+    ensures output { λ r. ⌜ now (output .exit) ≡ openSlice r OUTPUT (now (batch .entry)) (now (output .entry)) ⌝ }
+{
+    if MAX_LEN < batch.len() {
+        return OpenAnswer::Refused(Refusal::SliceLength);
+    }
+    if !right_lengths(
+        trace.len(),
+        op_stack.len(),
+        ram.len(),
+        jump_stack.len(),
+        sampled.len(),
+        digest.len(),
+        input.len(),
+        output.len(),
+    ) {
+        return OpenAnswer::Refused(Refusal::SliceLength);
+    }
+    let answer = reader::read(batch);
+    match answer {
+        OpenAnswer::Refused(refusal) => OpenAnswer::Refused(refusal),
+        OpenAnswer::Opened(counts) => {
+            reader::put_contents(batch, batch_commands::ROW, trace);
+            reader::put_contents(batch, batch_commands::OP_STACK, op_stack);
+            reader::put_contents(batch, batch_commands::RAM, ram);
+            reader::put_contents(batch, batch_commands::JUMP_STACK, jump_stack);
+            reader::put_contents(batch, batch_commands::SAMPLED, sampled);
+            reader::put_contents(batch, batch_commands::DIGEST, digest);
+            reader::put_contents(batch, batch_commands::INPUT, input);
+            reader::put_contents(batch, batch_commands::OUTPUT, output);
+            OpenAnswer::Opened(counts)
+        }
+    }
+}

@@ -1,0 +1,3 @@
+-- Laws on bytes and heads.
+pub mod Bytes
+pub mod Heads

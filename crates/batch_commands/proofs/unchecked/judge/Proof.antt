@@ -1,0 +1,82 @@
+-- The tests in order.
+use borrow.Author.Needs.{needs}
+use mathlib.Core.Path.{_≡_, sym, _∙_}
+use Prim.Native.Nat.{_+_, _-_, _/_}
+use native.Mathlib.Omega.{arith}
+use lib.ListN.{length, drop, length-drop}
+use borrow.Author.Tests.{not-true, not-false}
+use Rattle.base_field.specs.Words.{allBelow}
+use Rattle.batch_commands.specs.Words.{words}
+use Rattle.batch_commands.specs.Format.{width}
+use Rattle.batch_commands.specs.Fault.{outOfPlace, judged}
+use Rattle.batch_commands.proofs.unchecked.judge.Statement.{statement}
+use Rattle.batch_commands.proofs.unchecked.judge.Tie as tie
+
+abbrev start : tie.After-width → tie.Start
+start c = c .before .before
+
+places : (c : tie.After-out-of-place) → let args = start (c .before) .args in
+    outOfPlace (args .rows) (args .came) (args .code) (length (drop (args .at) (args .batch .now)) - width (args .code)) ≡ c .out-of-place .result
+places c =
+    let args = start (c .before) .args in
+    let e : length (drop (args .at) (args .batch .now)) - width (args .code) ≡ length (args .batch .now) - (args .at + c .before .width .result) = omega (arith, c .before .width .ensures, length-drop (args .at) (args .batch .now)) in
+    rw e (sym (c .out-of-place .ensures))
+
+below : (c : tie.After-words-below) → let args = start (c .before .before .before .before .before) .args in
+    allBelow (words (width (args .code) / 8) (drop (args .at) (args .batch .now))) ≡ c .words-below .result
+below c = sym (rw (c .before .before .before .before .before .width .ensures) at (c .words-below .ensures))
+
+width-requires : tie.Need-width-requires
+width-requires c κs = search needs
+
+add-out-of-place : tie.Need-add-out-of-place
+add-out-of-place c = search needs
+
+sub-out-of-place : tie.Need-sub-out-of-place
+sub-out-of-place c = search needs
+
+out-of-place-requires : tie.Need-out-of-place-requires
+out-of-place-requires c κs = search needs
+
+returns : tie.Need-returns
+unfolding judged
+returns c = rw (places (c .before) ∙ c .if1 .taken)
+
+wrong-row-count-requires : tie.Need-wrong-row-count-requires
+wrong-row-count-requires c κs = search needs
+
+returns-2 : tie.Need-returns-2
+unfolding judged
+returns-2 c = let first = c .before .before in rw (places (first .before) ∙ first .if1 .left, sym (c .before .wrong-row-count .ensures) ∙ c .if2 .taken)
+
+words-below-requires : tie.Need-words-below-requires
+words-below-requires c κs = search needs
+
+returns-3 : tie.Need-returns-3
+unfolding judged
+returns-3 c =
+    let second = c .before .before in
+    let first = second .before .before in
+    rw (places (first .before) ∙ first .if1 .left, sym (second .before .wrong-row-count .ensures) ∙ second .if2 .left, below (c .before) ∙ not-true (c .before .words-below .result) (c .if3 .taken))
+
+returns-4 : tie.Need-returns-4
+unfolding judged
+returns-4 c =
+    let second = c .before .before in
+    let first = second .before .before in
+    rw (places (first .before) ∙ first .if1 .left, sym (second .before .wrong-row-count .ensures) ∙ second .if2 .left, below (c .before) ∙ not-false (c .before .words-below .result) (c .if3 .left))
+
+pub judge-spec : {M : Type 1} → statement M
+judge-spec =
+    tie.close
+    (tie.spec
+    width-requires
+    add-out-of-place
+    sub-out-of-place
+    out-of-place-requires
+    returns
+    wrong-row-count-requires
+    returns-2
+    words-below-requires
+    returns-3
+    returns-4)

@@ -1,0 +1,56 @@
+-- What is wrong with a command, and what stands at a place.
+use mathlib.Core.Bool.{Bool, cond, not, _&&_, _||_}
+use mathlib.Core.List.{List, [], _∷_}
+use Prim.Native.Nat.{ℕ, _-_}
+use lib.Dec.{eqb, leb, ltb}
+use lib.ListN.{length, take, getD}
+use Rattle.base_field.specs.Words.{allBelow}
+use Rattle.refusal.specs.declared.Answer.{Answer}
+use Rattle.refusal.specs.declared.Answer.the-variants.{Done, Refused}
+use Rattle.refusal.specs.declared.Refusal.the-variants.{UnknownCommand, BatchCutOff, CommandOutOfPlace, RowCount, WordNotBelowP}
+use Rattle.batch_commands.specs.declared.Head.{Head}
+use Rattle.batch_commands.specs.declared.Head.the-variants.{Unknown, CutOff, Whole}
+use Rattle.batch_commands.specs.Words.{number, words}
+use Rattle.batch_commands.specs.Format.{END, TRACE-ROWS, ROW, SAMPLED, DIGEST, width, wordsIn}
+
+-- how often a command may stand: "06 and 07 once each", 01 too, as many rows as 01 announced, "At most 128 differences a list, 64 input and 64 output
+-- words."
+abbrev pub limit : ℕ → ℕ → ℕ
+limit rows code = getD (1 ∷ 1 ∷ rows ∷ 128 ∷ 128 ∷ 128 ∷ 1 ∷ 1 ∷ 64 ∷ 64 ∷ []) code 0
+
+-- rows, 06 or 07, where `came` says how often each command came, by its byte
+abbrev pub missing : ℕ → List ℕ → Bool
+missing rows came = ltb (getD came ROW 0) rows || eqb (getD came SAMPLED 0) 0 || eqb (getD came DIGEST 0) 0
+
+-- "01 stands first"; "also past a count"; at 00 "9 if rows or 06 or 07 are missing or bytes follow", of which `left` are left
+abbrev pub outOfPlace : ℕ → List ℕ → ℕ → ℕ → Bool
+outOfPlace rows came code left =
+    (eqb (getD came TRACE-ROWS 0) 0 && not (eqb code TRACE-ROWS))
+    || leb (limit rows code) (getD came code 0)
+    || (eqb code END && (missing rows came || not (eqb left 0)))
+
+-- 01 with a value outside 1 to 32
+abbrev pub wrongRowCount : ℕ → List ℕ → Bool
+wrongRowCount code operand = eqb code TRACE-ROWS && not (leb 1 (number operand) && leb (number operand) 32)
+
+-- "9 (also past a count), 3, 2", where `bytes` begins with the operand
+unfoldable pub judged : ℕ → List ℕ → ℕ → List ℕ → Answer
+unfolding number words allBelow
+judged rows came code bytes =
+    cond (outOfPlace rows came code (length bytes - width code)) (Refused CommandOutOfPlace)
+    (cond (wrongRowCount code (take (width code) bytes)) (Refused RowCount)
+    (cond (not (allBelow (wordsIn code bytes))) (Refused WordNotBelowP)
+    Done))
+
+-- "left to right, per command: 7, 8, 9 (also past a count), 3, 2"
+unfoldable pub fault : ℕ → List ℕ → ℕ → List ℕ → Answer
+unfolding judged
+fault rows came code bytes =
+    cond (ltb 9 code) (Refused UnknownCommand)
+    (cond (ltb (length bytes) (width code)) (Refused BatchCutOff)
+    (judged rows came code bytes))
+
+-- what the bytes from a place on begin with
+abbrev pub headOf : List ℕ → Head
+headOf [] = CutOff
+headOf (code ∷ bytes) = cond (ltb 9 code) Unknown (cond (ltb (length bytes) (width code)) CutOff (Whole code))

@@ -1,0 +1,4 @@
+-- The format of a batch, command by command.
+pub mod Words
+pub mod Format
+pub mod Fault

@@ -1,0 +1,56 @@
+// The commands of a batch, one at a time: a byte, then an operand of the width that the byte says.
+ghost use mathlib.Core.Path.{_≡_};
+ghost use lib.ListN.{drop};
+ghost use Rattle.batch_commands.specs.Fault.{headOf};
+
+// For callers that know which command it is, and that its operand is whole.
+pub mod unchecked;
+mod words;
+
+pub const END: usize = 0;
+
+pub const TRACE_ROWS: usize = 1;
+
+pub const ROW: usize = 2;
+
+pub const OP_STACK: usize = 3;
+
+pub const RAM: usize = 4;
+
+pub const JUMP_STACK: usize = 5;
+
+pub const SAMPLED: usize = 6;
+
+pub const DIGEST: usize = 7;
+
+pub const INPUT: usize = 8;
+
+pub const OUTPUT: usize = 9;
+
+// How many commands there are.
+pub const COUNT: usize = 10;
+
+// What stands at a place of a batch.
+pub enum Head {
+    Unknown,
+    // No byte is left, or too few for the operand.
+    CutOff,
+    // A command with its whole operand.
+    Whole(usize),
+}
+
+pub fn head_at(batch: &[u8], at: usize) -> Head
+    ensures { λ r. ⌜ r ≡ headOf (drop at (now (batch .entry))) ⌝ }
+{
+    if batch.len() <= at {
+        return Head::CutOff;
+    }
+    let code = batch[at] as usize;
+    if OUTPUT < code {
+        return Head::Unknown;
+    }
+    if batch.len() - (at + 1) < unchecked::width(code) {
+        return Head::CutOff;
+    }
+    Head::Whole(code)
+}

@@ -1,0 +1,2 @@
+-- From tests to answers.
+pub mod Answers
