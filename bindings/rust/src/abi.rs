@@ -52,6 +52,28 @@ mod raw {
             work: *mut u64,
             wl: usize,
         ) -> u32;
+        pub fn tealbobbin_open(
+            bytes: *const u8,
+            bl: usize,
+            trace: *mut u64,
+            tl: usize,
+            op_stack: *mut u64,
+            ol: usize,
+            ram: *mut u64,
+            rl: usize,
+            jump_stack: *mut u64,
+            jl: usize,
+            sampled: *mut u64,
+            sl: usize,
+            digest: *mut u64,
+            dl: usize,
+            input: *mut u64,
+            il: usize,
+            output: *mut u64,
+            len: usize,
+            counts: *mut u64,
+            cl: usize,
+        ) -> u32;
     }
 }
 
@@ -150,6 +172,35 @@ pub fn extend(main: &[u64], challenges: &[u64], chunk: usize, aux: &mut [u64], w
             aux.len(),
             work.as_mut_ptr(),
             work.len(),
+        )
+    }
+}
+
+/// The slices: trace, op stack, RAM, jump stack, sampled, digest, input, output. Into `counts` go rows, op stack, RAM, jump stack, input, output.
+pub fn open(bytes: &[u8], slices: [&mut [u64]; 8], counts: &mut [u64]) -> u32 {
+    let [trace, op_stack, ram, jump_stack, sampled, digest, input, output] = slices;
+    unsafe {
+        raw::tealbobbin_open(
+            bytes.as_ptr(),
+            bytes.len(),
+            trace.as_mut_ptr(),
+            trace.len(),
+            op_stack.as_mut_ptr(),
+            op_stack.len(),
+            ram.as_mut_ptr(),
+            ram.len(),
+            jump_stack.as_mut_ptr(),
+            jump_stack.len(),
+            sampled.as_mut_ptr(),
+            sampled.len(),
+            digest.as_mut_ptr(),
+            digest.len(),
+            input.as_mut_ptr(),
+            input.len(),
+            output.as_mut_ptr(),
+            output.len(),
+            counts.as_mut_ptr(),
+            counts.len(),
         )
     }
 }

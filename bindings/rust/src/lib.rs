@@ -1,6 +1,7 @@
 //! Safe functions over Tealbobbin's static library.
 
 pub mod abi;
+pub mod batch;
 pub mod challenges;
 pub mod field;
 pub mod isa;

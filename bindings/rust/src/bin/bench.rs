@@ -5,8 +5,10 @@ use std::hint::black_box;
 use std::time::Instant;
 
 use tealbobbin::abi;
+use tealbobbin::batch::Builder;
 use tealbobbin::field::{Element, P};
 use tealbobbin::plain;
+use tealbobbin::plain::batch::LENGTHS;
 use tealbobbin::plain::batched::extend_batched;
 use tealbobbin::plain::extension::{column::*, AUX_WIDTH, WIDTH};
 use tealbobbin::random::Random;
@@ -156,6 +158,23 @@ fn usual_table(random: &mut Random, rows: usize) -> Vec<u64> {
     main
 }
 
+/// A batch with this many rows, differences of each kind, and words of input and of output.
+fn batch(random: &mut Random, rows: usize, differences: usize, words: usize) -> Vec<u8> {
+    let mut word = || random.word() % P;
+    let mut batch = Builder::default();
+    batch.rows(rows as u32).sampled(&std::array::from_fn(|_| word())).digest(&std::array::from_fn(|_| word()));
+    for _ in 0..rows {
+        batch.row(&std::array::from_fn(|_| word()));
+    }
+    for _ in 0..differences {
+        batch.op_stack(word()).ram(word()).jump_stack(word());
+    }
+    for _ in 0..words {
+        batch.input(word()).output(word());
+    }
+    batch.end().bytes()
+}
+
 /// The best time of `runs` runs, in nanoseconds a call.
 fn time(runs: u32, calls: usize, mut run: impl FnMut()) -> f64 {
     (0..runs)
@@ -297,5 +316,20 @@ fn main() {
         let (mut aux, mut work) = room(rows);
         let best = time(5, rows, || assert_eq!(abi::extend(&main, &challenges, CHUNK, &mut aux, &mut work), 0));
         println!("{:<34} {best:>10.2}", format!("extend a row, 2^{power} rows"));
+    }
+
+    for (rows, differences, words) in [(32, 128, 64), (13, 71, 33)] {
+        let bytes = batch(&mut random, rows, differences, words);
+        type Open = fn(&[u8], [&mut [u64]; 8], &mut [u64]) -> u32;
+        let opens = |open: Open| {
+            let (bytes, mut lent) = (&bytes, LENGTHS.map(|length| vec![0; length]));
+            move || {
+                for _ in 0..200 {
+                    let [slices @ .., counts] = lent.each_mut().map(Vec::as_mut_slice);
+                    assert_eq!(open(black_box(bytes), slices, counts), 0);
+                }
+            }
+        };
+        side_by_side(&format!("open a byte, {} bytes", bytes.len()), 200 * bytes.len(), opens(abi::open), opens(plain::batch::open));
     }
 }

@@ -3,6 +3,7 @@
 //!     compare [SEED] [COUNT]
 
 mod arithmetic;
+mod batches;
 mod decoding;
 mod derived;
 mod extension;
@@ -25,6 +26,7 @@ fn main() {
         scans::compare(&mut random, count / 300),
         tables::compare(&mut random, count / 100),
         extension::compare(&mut random, count / 3),
+        batches::compare(&mut random, count * 4),
     ];
     std::process::exit(if right.iter().all(|&r| r) { 0 } else { 1 });
 }

@@ -40,6 +40,15 @@ impl Tally {
         }
     }
 
+    /// Each of these answers, 0 for success, is to have been expected at least once.
+    pub fn reached(&mut self, numbers: &[usize]) {
+        for &number in numbers {
+            if self.refused[number] == 0 {
+                self.differ(format!("no case for {number}"));
+            }
+        }
+    }
+
     /// One line for all that was compared; whether there was no difference.
     pub fn report(&self) -> bool {
         let refused: Vec<String> = (1..10).filter(|&n| self.refused[n] > 0).map(|n| format!("{n}: {}", self.refused[n])).collect();
