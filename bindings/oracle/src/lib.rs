@@ -18,9 +18,10 @@ use ndarray::prelude::*;
 use num_traits::{ConstOne, ConstZero};
 use twenty_first::prelude::*;
 
+use crate::aet::AlgebraicExecutionTrace;
 use crate::ndarray_helper::par_zeros;
 use crate::prelude::Claim;
-use crate::table::running_arguments::{par_running_affine_maps, par_running_product, par_running_sum};
+use crate::table::running_arguments::{par_running_affine_maps, par_running_product, par_running_sum, par_scan};
 
 include!(concat!(env!("OUT_DIR"), "/root.rs"));
 
@@ -88,21 +89,21 @@ pub fn decode(ci: u64, nia: u64) -> Option<u64> {
 
 /// All 63 challenges, from the sampled ones and the claim.
 pub fn challenges(sampled: &[u64], digest: &[u64; 5], input: &[u64], output: &[u64]) -> Result<Vec<u64>, Panicked> {
-    let claim = Claim { program_digest: Digest(digest.map(BFieldElement::from)), input: base(input), output: base(output) };
-    caught(|| words(&challenges::Challenges::new(elements(sampled), &claim).challenges))
+    let claim = Claimed::new(digest, input, output);
+    caught(|| claim.challenges(Sampled::new(sampled)).words())
 }
 
 /// The table after fill.
 pub fn fill(trace: &[u64], op_stack: &[u64], ram: &[u64], jump_stack: &[u64], table: &[u64]) -> Result<Vec<u64>, Panicked> {
-    let mut table = Main::new(table, Order::Rows);
-    caught(|| table::fill(table.0.view_mut(), Main::new(trace, Order::Rows).0, [op_stack, ram, jump_stack].map(base)))?;
+    let (trace, mut table) = (Trace::new(trace), Main::new(table, Order::Rows));
+    caught(|| table.fill(&trace, Differences::new([op_stack, ram, jump_stack])))?;
     Ok(table.words())
 }
 
 /// The table after pad.
 pub fn pad(table: &[u64], table_len: usize) -> Result<Vec<u64>, Panicked> {
     let mut table = Main::new(table, Order::Rows);
-    caught(|| table::pad(table.0.view_mut(), table_len))?;
+    caught(|| table.pad(table_len))?;
     Ok(table.words())
 }
 
@@ -146,20 +147,117 @@ impl Order {
     }
 }
 
-/// A main table as the original holds it.
-struct Main(Array2<BFieldElement>);
+/// A trace as the original holds it, row by row.
+pub struct Trace(AlgebraicExecutionTrace);
+
+impl Trace {
+    pub fn new(words: &[u64]) -> Trace {
+        Trace(AlgebraicExecutionTrace { processor_trace: Main::new(words, Order::Rows).0 })
+    }
+}
+
+/// The three lists of clock jump differences as the original holds them.
+#[derive(Clone)]
+pub struct Differences([Vec<BFieldElement>; 3]);
+
+impl Differences {
+    pub fn new(lists: [&[u64]; 3]) -> Differences {
+        Differences(lists.map(base))
+    }
+}
+
+/// A main table as the original holds it. Fill and pad panic where the original does.
+pub struct Main(Array2<BFieldElement>);
 
 impl Main {
-    fn new(words: &[u64], order: Order) -> Main {
+    pub fn new(words: &[u64], order: Order) -> Main {
         let mut table = order.zeros(words.len() / MAIN_WIDTH, MAIN_WIDTH);
         let rows = Array2::from_shape_vec((words.len() / MAIN_WIDTH, MAIN_WIDTH), base(words)).expect("whole rows");
         table.view_mut().assign(&rows);
         Main(table)
     }
 
-    fn words(&self) -> Vec<u64> {
+    pub fn fill(&mut self, trace: &Trace, differences: Differences) {
+        table::fill(self.0.view_mut(), &trace.0, differences.0);
+    }
+
+    pub fn pad(&mut self, table_len: usize) {
+        table::pad(self.0.view_mut(), table_len);
+    }
+
+    pub fn words(&self) -> Vec<u64> {
         let rows = 0..self.0.nrows();
         rows.flat_map(|row| (0..MAIN_WIDTH).map(move |column| self.0.view()[[row, column]].value())).collect()
+    }
+}
+
+/// Sampled challenges as the original holds them.
+#[derive(Clone)]
+pub struct Sampled(Vec<XFieldElement>);
+
+impl Sampled {
+    pub fn new(words: &[u64]) -> Sampled {
+        Sampled(elements(words))
+    }
+}
+
+/// All challenges as the original holds them.
+pub struct Derived(challenges::Challenges);
+
+impl Derived {
+    pub fn words(&self) -> Vec<u64> {
+        words(&self.0.challenges)
+    }
+}
+
+/// A claim as the original holds it.
+pub struct Claimed(Claim);
+
+impl Claimed {
+    pub fn new(digest: &[u64; 5], input: &[u64], output: &[u64]) -> Claimed {
+        Claimed(Claim { program_digest: Digest(digest.map(BFieldElement::from)), input: base(input), output: base(output) })
+    }
+
+    /// Derives; panics where the original does.
+    pub fn challenges(&self, sampled: Sampled) -> Derived {
+        Derived(challenges::Challenges::new(sampled.0, &self.0))
+    }
+}
+
+/// Items of a scan as the original holds them.
+pub enum Items {
+    Maps(Vec<(XFieldElement, XFieldElement)>),
+    Products(Vec<XFieldElement>),
+    Sums(Vec<XFieldElement>),
+}
+
+impl Items {
+    pub fn maps(words: &[u64]) -> Items {
+        Items::Maps(elements(words).chunks_exact(2).map(|map| (map[0], map[1])).collect())
+    }
+
+    pub fn products(words: &[u64]) -> Items {
+        Items::Products(elements(words))
+    }
+
+    pub fn sums(words: &[u64]) -> Items {
+        Items::Sums(elements(words))
+    }
+
+    /// Scans in place, by the steps that the original hands to its scan.
+    pub fn scan(&mut self) {
+        match self {
+            Items::Maps(items) => par_scan(items, |(a, b), (c, d)| (c * a, c * b + d)),
+            Items::Products(items) => par_scan(items, |a, b| a * b),
+            Items::Sums(items) => par_scan(items, |a, b| a + b),
+        }
+    }
+
+    pub fn words(&self) -> Vec<u64> {
+        match self {
+            Items::Maps(items) => items.iter().flat_map(|&(a, b)| words(&[a, b])).collect(),
+            Items::Products(items) | Items::Sums(items) => words(items),
+        }
     }
 }
 

@@ -24,10 +24,9 @@ trait TraceTable {
     fn extend(main_table: ArrayView2<BFieldElement>, aux_table: ArrayViewMut2<XFieldElement>, challenges: &Challenges);
 }
 
-pub fn fill(main: ArrayViewMut2<BFieldElement>, trace: Array2<BFieldElement>, differences: [Vec<BFieldElement>; 3]) {
+pub fn fill(main: ArrayViewMut2<BFieldElement>, trace: &AlgebraicExecutionTrace, differences: [Vec<BFieldElement>; 3]) {
     let [op_stack, ram, jump_stack] = differences;
-    let differences = processor::ClkJumpDiffs { op_stack, ram, jump_stack };
-    ProcessorTable::fill(main, &AlgebraicExecutionTrace { processor_trace: trace }, differences);
+    ProcessorTable::fill(main, trace, processor::ClkJumpDiffs { op_stack, ram, jump_stack });
 }
 
 pub fn pad(main: ArrayViewMut2<BFieldElement>, table_len: usize) {

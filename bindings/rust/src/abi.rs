@@ -1,5 +1,6 @@
 //! The exported functions over slices of any length: each answers 0 or the refusal's number.
-//! This module has all of the crate's unsafe code.
+//! This module has all of the crate's unsafe code: each call hands over slices as their pointers and lengths, and what is written
+//! is lent by `&mut`, so that it shares no memory with the rest.
 
 mod raw {
     extern "C" {

@@ -1,23 +1,36 @@
 //! Batches: one run's trace, differences, sampled challenges, digest, input and output in one row of bytes. docs/BATCH.md has the format.
 
-use crate::isa::Row;
-use crate::processor::Differences;
+use crate::challenges::{Digest, Sampled};
+use crate::processor::{Differences, Row};
 use crate::{abi, answer, Refusal};
 
 /// What a batch brings: the trace's rows one after the other, and the words of every list in the batch's order.
 #[derive(Debug, Clone, PartialEq, Eq)]
 pub struct Batch {
+    /// The rows one after the other, 39 words each.
     pub trace: Vec<u64>,
+    /// Clock jump differences of the op-stack table.
     pub op_stack: Vec<u64>,
+    /// Clock jump differences of the RAM table.
     pub ram: Vec<u64>,
+    /// Clock jump differences of the jump-stack table.
     pub jump_stack: Vec<u64>,
-    pub sampled: [u64; 177],
-    pub digest: [u64; 5],
+    /// The sampled challenges.
+    pub sampled: Sampled,
+    /// The program's digest.
+    pub digest: Digest,
+    /// The claim's input.
     pub input: Vec<u64>,
+    /// The claim's output.
     pub output: Vec<u64>,
 }
 
 /// Reads a batch of at most 16,384 bytes.
+///
+/// # Errors
+///
+/// [`Refusal::SliceLength`] if it has more bytes; then, at the first command with a fault, [`Refusal::UnknownCommand`],
+/// [`Refusal::BatchCutOff`], [`Refusal::CommandOutOfPlace`], [`Refusal::RowCount`] or [`Refusal::WordNotBelowP`], in this order.
 pub fn open(bytes: &[u8]) -> Result<Batch, Refusal> {
     let list = |length: usize| vec![0; length];
     let mut batch = Batch {
@@ -25,14 +38,14 @@ pub fn open(bytes: &[u8]) -> Result<Batch, Refusal> {
         op_stack: list(128),
         ram: list(128),
         jump_stack: list(128),
-        sampled: [0; 177],
+        sampled: [[0; 3]; 59],
         digest: [0; 5],
         input: list(64),
         output: list(64),
     };
     let Batch { trace, op_stack, ram, jump_stack, sampled, digest, input, output } = &mut batch;
     let mut counts = [0; 6];
-    let number = abi::open(bytes, [trace, op_stack, ram, jump_stack, sampled, digest, input, output], &mut counts);
+    let number = abi::open(bytes, [trace, op_stack, ram, jump_stack, sampled.as_flattened_mut(), digest, input, output], &mut counts);
     let [rows, counts @ ..] = counts.map(|count| count as usize);
     trace.truncate(39 * rows);
     for (list, count) in [op_stack, ram, jump_stack, input, output].into_iter().zip(counts) {
@@ -42,6 +55,7 @@ pub fn open(bytes: &[u8]) -> Result<Batch, Refusal> {
 }
 
 impl Batch {
+    /// The three lists of differences, as fill takes them.
     pub fn differences(&self) -> Differences<'_> {
         Differences { op_stack: &self.op_stack, ram: &self.ram, jump_stack: &self.jump_stack }
     }
@@ -50,6 +64,7 @@ impl Batch {
 /// A batch in the making: its commands in the order in which they were added, any of them any number of times. Nothing is checked.
 #[derive(Debug, Clone, Default, PartialEq, Eq)]
 pub struct Builder {
+    /// Each command with its operand.
     pub commands: Vec<Vec<u8>>,
 }
 
@@ -77,38 +92,47 @@ impl Builder {
         self.command(2, row)
     }
 
+    /// A difference of the op-stack table.
     pub fn op_stack(&mut self, difference: u64) -> &mut Builder {
         self.command(3, &[difference])
     }
 
+    /// A difference of the RAM table.
     pub fn ram(&mut self, difference: u64) -> &mut Builder {
         self.command(4, &[difference])
     }
 
+    /// A difference of the jump-stack table.
     pub fn jump_stack(&mut self, difference: u64) -> &mut Builder {
         self.command(5, &[difference])
     }
 
+    /// The sampled challenges.
     pub fn sampled(&mut self, words: &[u64; 177]) -> &mut Builder {
         self.command(6, words)
     }
 
+    /// The program's digest.
     pub fn digest(&mut self, words: &[u64; 5]) -> &mut Builder {
         self.command(7, words)
     }
 
+    /// The next input word.
     pub fn input(&mut self, word: u64) -> &mut Builder {
         self.command(8, &[word])
     }
 
+    /// The next output word.
     pub fn output(&mut self, word: u64) -> &mut Builder {
         self.command(9, &[word])
     }
 
+    /// The end of the batch.
     pub fn end(&mut self) -> &mut Builder {
         self.raw(&[0])
     }
 
+    /// The batch's bytes.
     pub fn bytes(&self) -> Vec<u8> {
         self.commands.concat()
     }
@@ -123,7 +147,7 @@ mod tests {
     /// The library's answer and the plain reader's.
     fn answers(batch: &Builder, number: u32) {
         let bytes = batch.bytes();
-        assert_eq!(open(&bytes).err().map_or(0, |refusal| refusal as u32), number);
+        assert_eq!(open(&bytes).err().map_or(0, |refusal| refusal.number()), number);
         assert_eq!(plain::batch::read(&bytes).err().unwrap_or(0), number);
     }
 
@@ -229,7 +253,7 @@ mod tests {
         assert_eq!(opened.trace, (0..32).flat_map(|row| [row; 39]).collect::<Vec<u64>>());
         assert_eq!([&opened.jump_stack, &opened.op_stack, &opened.ram], [&multiples(128, 1), &multiples(128, 2), &multiples(128, 3)]);
         assert_eq!([&opened.input, &opened.output], [&multiples(64, 4), &multiples(64, 5)]);
-        assert_eq!((opened.sampled, opened.digest), ([2; 177], [0; 5]));
+        assert_eq!((opened.sampled, opened.digest), ([[2; 3]; 59], [0; 5]));
         assert_eq!(open(&vec![0; 16_385]), Err(Refusal::SliceLength));
         assert_eq!(open(&vec![0; 16_384]), Err(Refusal::CommandOutOfPlace));
     }

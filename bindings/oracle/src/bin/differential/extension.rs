@@ -60,7 +60,10 @@ impl Case<'_> {
         let (mut number, mut expected) = (self.refusal(), vec![]);
         if number == 0 {
             match oracle::extend(self.main, self.challenges) {
-                Ok(aux) => expected = [aux, vec![0; self.work]].concat(),
+                Ok(aux) => {
+                    tally.rows += (self.main.len() / WIDTH) as u64;
+                    expected = [aux, vec![0; self.work]].concat();
+                }
                 Err(_) => number = 6,
             }
         }
@@ -169,7 +172,7 @@ fn refusals(tally: &mut Tally, random: &mut Random) {
 
 /// Windows of every kind, tables of 1 to 256 rows, tall ones around the original's own chunks and up to 2^16, zero
 /// denominators and refusals.
-pub fn compare(random: &mut Random, count: u64) -> bool {
+pub fn compare(random: &mut Random, count: u64, rows_compared: &mut u64) -> bool {
     let mut tally = Tally::new("extend");
     if oracle::extend(&[], &challenges(random)).is_ok() {
         tally.differ("the original extends a table without rows".to_string());
@@ -197,5 +200,6 @@ pub fn compare(random: &mut Random, count: u64) -> bool {
             any_check(&mut tally, random, &main);
         }
     }
+    *rows_compared += tally.rows;
     tally.report()
 }

@@ -24,14 +24,16 @@ fn main() {
     let seed = arguments.next().unwrap_or(1);
     let count = arguments.next().unwrap_or(80_000);
     let mut random = Random(seed);
+    let mut rows = 0;
     println!("differential: seed {seed}, count {count}");
     let right = [
         values::compare(),
         decoding::compare(&mut random),
         claims::compare(&mut random, count),
         scans::compare(&mut random, count),
-        tables::compare(&mut random, count),
-        extension::compare(&mut random, count),
+        tables::compare(&mut random, count, &mut rows),
+        extension::compare(&mut random, count, &mut rows),
     ];
+    println!("{rows} rows of tables compared in all");
     std::process::exit(if right.iter().all(|&r| r) { 0 } else { 1 });
 }

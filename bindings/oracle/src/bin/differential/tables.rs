@@ -11,6 +11,7 @@ const WIDTH: usize = 39;
 /// What a call is to answer and leave: the original's table, or a refusal where it panics.
 fn check(tally: &mut Tally, what: &str, shape: &[u64], before: &[u64], got: (u32, &[u64]), original: Result<Vec<u64>, u32>) {
     let (number, table) = original.map_or_else(|number| (number, vec![]), |table| (0, table));
+    tally.rows += (table.len() / WIDTH) as u64;
     tally.check(what, shape, before, got, number, &table);
 }
 
@@ -34,7 +35,7 @@ fn pad(tally: &mut Tally, table: &[u64], table_len: usize) {
 }
 
 /// Traces and tables of up to 12 rows in every combination, larger ones, differences up to and past the last row.
-pub fn compare(random: &mut Random, count: u64) -> bool {
+pub fn compare(random: &mut Random, count: u64, rows_compared: &mut u64) -> bool {
     let mut tally = Tally::new("fill and pad");
     let lists = |random: &mut Random, below: u64| -> [Vec<u64>; 3] {
         std::array::from_fn(|_| (0..random.word() % 8).map(|_| random.word() % below).collect())
@@ -70,5 +71,6 @@ pub fn compare(random: &mut Random, count: u64) -> bool {
     let many: [Vec<u64>; 3] = std::array::from_fn(|_| (0..50_000).map(|_| random.word() % 20_000).collect());
     fill(&mut tally, &words(random, 20_000 * WIDTH), &many, &words(random, 32_768 * WIDTH));
     pad(&mut tally, &words(random, 65_536 * WIDTH), 40_000);
+    *rows_compared += tally.rows;
     tally.report()
 }

@@ -12,11 +12,13 @@ pub struct Tally {
     compared: u64,
     refused: [u64; 10],
     different: u64,
+    /// Rows of the tables that both sides wrote.
+    pub rows: u64,
 }
 
 impl Tally {
     pub fn new(name: &'static str) -> Tally {
-        Tally { name, compared: 0, refused: [0; 10], different: 0 }
+        Tally { name, compared: 0, refused: [0; 10], different: 0, rows: 0 }
     }
 
     /// A call's number and what the lent slice held before and holds now, against the number and the words that are expected.
@@ -52,7 +54,8 @@ impl Tally {
     /// One line for all that was compared; whether there was no difference.
     pub fn report(&self) -> bool {
         let refused: Vec<String> = (1..10).filter(|&n| self.refused[n] > 0).map(|n| format!("{n}: {}", self.refused[n])).collect();
-        println!("{}: {} calls compared, refused {}; {} differences", self.name, self.compared, refused.join(", "), self.different);
+        let rows = if self.rows > 0 { format!("; {} rows of tables", self.rows) } else { String::new() };
+        println!("{}: {} calls compared, refused {}{rows}; {} differences", self.name, self.compared, refused.join(", "), self.different);
         self.different == 0
     }
 }
