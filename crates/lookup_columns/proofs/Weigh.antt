@@ -24,19 +24,21 @@ module _ (weights : List XFieldElement) where
   abbrev w : ℕ → XFieldElement
   w k = getD weights k element.zero
 
-  pub three : (words : List ℕ) → length weights ≡ 3 → length words ≡ 3
-      → weigh weights words
-      ≡ sum (scale (getD words 0 0) (w 0)) (sum (scale (getD words 1 0) (w 1)) (scale (getD words 2 0) (w 2)))
-  unfolding weigh
-  three words h k =
-      ap₂ weigh (listed element.zero weights 3 h) (listed 0 words 3 k)
-      ∙ ap (λ t. sum (scale (getD words 0 0) (w 0)) (sum (scale (getD words 1 0) (w 1)) t)) (sum-zero _ (scale-canonical (getD words 2 0) (w 2)))
+  module _ (words : List ℕ) where
+    abbrev pub term : ℕ → XFieldElement
+    term k = scale (getD words k 0) (w k)
 
-  pub four : (words : List ℕ) → length weights ≡ 4 → length words ≡ 4
-      → weigh weights words
-      ≡ sum (scale (getD words 0 0) (w 0)) (weigh (w 1 ∷ w 2 ∷ w 3 ∷ []) (getD words 1 0 ∷ getD words 2 0 ∷ getD words 3 0 ∷ []))
-  unfolding weigh
-  four words h k = ap₂ weigh (listed element.zero weights 4 h) (listed 0 words 4 k)
+    pub three : length weights ≡ 3 → length words ≡ 3 → weigh weights words ≡ sum (term 0) (sum (term 1) (term 2))
+    unfolding weigh
+    three h k =
+        ap₂ weigh (listed element.zero weights 3 h) (listed 0 words 3 k)
+        ∙ ap (λ t. sum (term 0) (sum (term 1) t)) (sum-zero _ (scale-canonical (getD words 2 0) (w 2)))
+
+    pub four : length weights ≡ 4 → length words ≡ 4 → weigh weights words ≡ sum (term 0) (sum (term 1) (sum (term 2) (term 3)))
+    unfolding weigh
+    four h k =
+        ap₂ weigh (listed element.zero weights 4 h) (listed 0 words 4 k)
+        ∙ ap (λ t. sum (term 0) (sum (term 1) (sum (term 2) t))) (sum-zero _ (scale-canonical (getD words 3 0) (w 3)))
 
   pub operands : (words : List ℕ) → length weights ≡ 4 → length words ≡ 3
       → weigh weights words ≡ weigh (w 0 ∷ w 1 ∷ w 2 ∷ []) words

@@ -7,8 +7,10 @@ use base_field::unchecked::sub;
 use field::XFieldElement;
 use field::unchecked::element_add;
 use field::unchecked::element_mul;
-use field::unchecked::element_scale;
 use field::unchecked::element_sub;
+use field::unchecked::settle_weighed;
+use field::unchecked::weigh_last;
+use field::unchecked::weigh_more;
 use processor_entries::RowFraction;
 ghost use mathlib.Core.Path.{_≡_};
 ghost use mathlib.Core.Bool.{true};
@@ -17,7 +19,7 @@ ghost use Prim.Native.Nat.{_<_};
 ghost use lib.ListN.{getD};
 ghost use Rattle.algebra.specs.Modulus.{p};
 ghost use Rattle.base_field.specs.Words.{allBelow};
-ghost use Rattle.field.specs.Element.{Canonical, lift, sum, scale};
+ghost use Rattle.field.specs.Element.{Canonical, lift};
 ghost use Rattle.processor_entries.specs.Entries.{one-over, instructionEntries, u32Entries, andOfXor, clockEntries};
 ghost use Rattle.processor_entries.specs.Row.{weigh};
 ghost use Rattle.processor_entries.specs.Contribution.{added, noFraction};
@@ -92,30 +94,21 @@ fn lift(word: u64) -> XFieldElement
     }
 }
 
-// A word times its weight, added to what the words after it give.
-fn add_weighted(word: u64, weight: XFieldElement, rest: XFieldElement) -> XFieldElement
-    requires { ⌜ Canonical rest ⌝ }
-    ensures { λ r. ⌜ (r ≡ sum (scale word weight) rest) × Canonical r ⌝ }
-{
-    element_add(element_scale(word, weight), rest)
-}
-
 fn compress_three(weights: [XFieldElement; 3], words: [u64; 3]) -> XFieldElement
     ensures { λ r. ⌜ (r ≡ weigh weights words) × Canonical r ⌝ }
 {
-    let last = element_scale(words[2], weights[2]);
-    let rest = add_weighted(words[1], weights[1], last);
-    add_weighted(words[0], weights[0], rest)
+    let last = weigh_last(words[2], weights[2]);
+    let last_two = weigh_more(words[1], weights[1], last);
+    settle_weighed(weigh_more(words[0], weights[0], last_two))
 }
 
 fn compress_four(weights: [XFieldElement; 4], words: [u64; 4]) -> XFieldElement
     ensures { λ r. ⌜ (r ≡ weigh weights words) × Canonical r ⌝ }
 {
-    let rest = compress_three(
-        [weights[1], weights[2], weights[3]],
-        [words[1], words[2], words[3]],
-    );
-    add_weighted(words[0], weights[0], rest)
+    let last = weigh_last(words[3], weights[3]);
+    let last_two = weigh_more(words[2], weights[2], last);
+    let last_three = weigh_more(words[1], weights[1], last_two);
+    settle_weighed(weigh_more(words[0], weights[0], last_three))
 }
 
 // Without a result the last weight is left out.

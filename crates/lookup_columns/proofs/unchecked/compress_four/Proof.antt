@@ -1,56 +1,82 @@
--- The first word, then the other three.
+-- The words as the definition takes them, the last first and with no zero added.
 use borrow.Author.Needs.{needs}
-use Rattle.lookup_columns.proofs.Weigh.{four}
+use mathlib.Core.Path.{_≡_, sym, ap, _∙_}
+use lib.ListN.{length}
+use Rattle.field.specs.Element.{sum}
+use Rattle.processor_entries.proofs.Weigh.{weigh-canonical}
+use Rattle.lookup_columns.proofs.Weigh.{term, four}
 use Rattle.lookup_columns.proofs.unchecked.compress_four.Statement.{statement}
 use Rattle.lookup_columns.proofs.unchecked.compress_four.Tie as tie
 
-array-copy-out-add-weighted : tie.Need-array-copy-out-add-weighted
-array-copy-out-add-weighted c = search needs
+array-read-weigh-last : tie.Need-array-read-weigh-last
+array-read-weigh-last c = search needs
 
-array-copy-out-t11 : tie.Need-array-copy-out-t11
-array-copy-out-t11 c = search needs
+array-copy-out-weigh-last : tie.Need-array-copy-out-weigh-last
+array-copy-out-weigh-last c = search needs
 
-array-copy-out-t14 : tie.Need-array-copy-out-t14
-array-copy-out-t14 c = search needs
+weigh-last-requires : tie.Need-weigh-last-requires
+weigh-last-requires c κs = search needs
 
-array-read-add-weighted : tie.Need-array-read-add-weighted
-array-read-add-weighted c = search needs
+array-read-weigh-more : tie.Need-array-read-weigh-more
+array-read-weigh-more c = search needs
 
-array-read-t21 : tie.Need-array-read-t21
-array-read-t21 c = search needs
+array-copy-out-weigh-more : tie.Need-array-copy-out-weigh-more
+array-copy-out-weigh-more c = search needs
 
-array-read-t24 : tie.Need-array-read-t24
-array-read-t24 c = search needs
+weigh-more-requires : tie.Need-weigh-more-requires
+weigh-more-requires c κs = search needs
 
-compress-three-requires : tie.Need-compress-three-requires
-compress-three-requires c κs = search needs
+array-read-weigh-more-2 : tie.Need-array-read-weigh-more-2
+array-read-weigh-more-2 c = search needs
 
-array-read-add-weighted-2 : tie.Need-array-read-add-weighted-2
-array-read-add-weighted-2 c = search needs
+array-copy-out-weigh-more-2 : tie.Need-array-copy-out-weigh-more-2
+array-copy-out-weigh-more-2 c = search needs
 
-array-copy-out-add-weighted-2 : tie.Need-array-copy-out-add-weighted-2
-array-copy-out-add-weighted-2 c = search needs
+weigh-more-requires-2 : tie.Need-weigh-more-requires-2
+weigh-more-requires-2 c κs = search needs
 
-add-weighted-requires : tie.Need-add-weighted-requires
-add-weighted-requires c κs = search needs
+array-read-weigh-more-3 : tie.Need-array-read-weigh-more-3
+array-read-weigh-more-3 c = search needs
+
+array-copy-out-weigh-more-3 : tie.Need-array-copy-out-weigh-more-3
+array-copy-out-weigh-more-3 c = search needs
+
+weigh-more-requires-3 : tie.Need-weigh-more-requires-3
+weigh-more-requires-3 c κs = search needs
+
+settle-weighed-requires : tie.Need-settle-weighed-requires
+settle-weighed-requires c κs = search needs
 
 returns : tie.Need-returns
 returns c =
-    let start = c .before .before .before .before .before .before in
-    (cc (four (start .args .t1) (start .args .t2) (search needs) (search needs)), c .add-weighted .ensures .1)
+    let start = c .before .before .before .before .before .before .before .before .before in
+    let good = start .good in
+    let h : length (start .args .t1) ≡ 4 = search needs in
+    let g : length (start .args .t2) ≡ 4 = search needs in
+    let t = term (start .args .t1) (start .args .t2) in
+    let last = c .before .before .before .before .before .before .before .weigh-last .ensures .0 in
+    let last-two = c .before .before .before .before .before .weigh-more .ensures .0 ∙ ap (sum (t 2)) last in
+    let last-three = c .before .before .before .weigh-more2 .ensures .0 ∙ ap (sum (t 1)) last-two in
+    let e =
+    c .settle-weighed .ensures ∙ c .before .weigh-more3 .ensures .0 ∙ ap (sum (t 0)) last-three
+    ∙ sym (four (start .args .t1) (start .args .t2) h g) in
+    (e, rw e (weigh-canonical _ _))
 
 pub compress-four-spec : {M : Type 1} → statement M
 compress-four-spec =
     tie.close
     (tie.spec
-    array-copy-out-add-weighted
-    array-copy-out-t11
-    array-copy-out-t14
-    array-read-add-weighted
-    array-read-t21
-    array-read-t24
-    compress-three-requires
-    array-read-add-weighted-2
-    array-copy-out-add-weighted-2
-    add-weighted-requires
+    array-read-weigh-last
+    array-copy-out-weigh-last
+    weigh-last-requires
+    array-read-weigh-more
+    array-copy-out-weigh-more
+    weigh-more-requires
+    array-read-weigh-more-2
+    array-copy-out-weigh-more-2
+    weigh-more-requires-2
+    array-read-weigh-more-3
+    array-copy-out-weigh-more-3
+    weigh-more-requires-3
+    settle-weighed-requires
     returns)

@@ -1,53 +1,64 @@
 -- The words as the definition takes them, the last first and with no zero added.
 use borrow.Author.Needs.{needs}
-use Rattle.field.proofs.Laws.{scale-canonical}
+use mathlib.Core.Path.{_≡_}
+use lib.ListN.{length}
+use Rattle.processor_entries.specs.Row.{weigh}
+use Rattle.processor_entries.proofs.Weigh.{weigh-canonical}
 use Rattle.lookup_columns.proofs.Weigh.{three}
 use Rattle.lookup_columns.proofs.unchecked.compress_three.Statement.{statement}
 use Rattle.lookup_columns.proofs.unchecked.compress_three.Tie as tie
 
-array-read-element-scale : tie.Need-array-read-element-scale
-array-read-element-scale c = search needs
+array-read-weigh-last : tie.Need-array-read-weigh-last
+array-read-weigh-last c = search needs
 
-array-copy-out-element-scale : tie.Need-array-copy-out-element-scale
-array-copy-out-element-scale c = search needs
+array-copy-out-weigh-last : tie.Need-array-copy-out-weigh-last
+array-copy-out-weigh-last c = search needs
 
-element-scale-requires : tie.Need-element-scale-requires
-element-scale-requires c κs = search needs
+weigh-last-requires : tie.Need-weigh-last-requires
+weigh-last-requires c κs = search needs
 
-array-read-add-weighted : tie.Need-array-read-add-weighted
-array-read-add-weighted c = search needs
+array-read-weigh-more : tie.Need-array-read-weigh-more
+array-read-weigh-more c = search needs
 
-array-copy-out-add-weighted : tie.Need-array-copy-out-add-weighted
-array-copy-out-add-weighted c = search needs
+array-copy-out-weigh-more : tie.Need-array-copy-out-weigh-more
+array-copy-out-weigh-more c = search needs
 
-add-weighted-requires : tie.Need-add-weighted-requires
-add-weighted-requires c κs = rw (c .before .element-scale .ensures) (scale-canonical _ _)
+weigh-more-requires : tie.Need-weigh-more-requires
+weigh-more-requires c κs = search needs
 
-array-read-add-weighted-2 : tie.Need-array-read-add-weighted-2
-array-read-add-weighted-2 c = search needs
+array-read-weigh-more-2 : tie.Need-array-read-weigh-more-2
+array-read-weigh-more-2 c = search needs
 
-array-copy-out-add-weighted-2 : tie.Need-array-copy-out-add-weighted-2
-array-copy-out-add-weighted-2 c = search needs
+array-copy-out-weigh-more-2 : tie.Need-array-copy-out-weigh-more-2
+array-copy-out-weigh-more-2 c = search needs
 
-add-weighted-requires-2 : tie.Need-add-weighted-requires-2
-add-weighted-requires-2 c κs = search needs
+weigh-more-requires-2 : tie.Need-weigh-more-requires-2
+weigh-more-requires-2 c κs = search needs
+
+settle-weighed-requires : tie.Need-settle-weighed-requires
+settle-weighed-requires c κs = search needs
 
 returns : tie.Need-returns
 returns c =
-    let args = c .before .before .before .before .before .before .args in
-    (cc (three (args .t1) (args .t2) (search needs) (search needs)), c .add-weighted2 .ensures .1)
+    let start = c .before .before .before .before .before .before .before in
+    let good = start .good in
+    let h : length (start .args .t1) ≡ 3 = search needs in
+    let g : length (start .args .t2) ≡ 3 = search needs in
+    let e : c .settle-weighed .result ≡ weigh (start .args .t1) (start .args .t2) = cc (three (start .args .t1) (start .args .t2) h g) in
+    (e, rw e (weigh-canonical _ _))
 
 pub compress-three-spec : {M : Type 1} → statement M
 compress-three-spec =
     tie.close
     (tie.spec
-    array-read-element-scale
-    array-copy-out-element-scale
-    element-scale-requires
-    array-read-add-weighted
-    array-copy-out-add-weighted
-    add-weighted-requires
-    array-read-add-weighted-2
-    array-copy-out-add-weighted-2
-    add-weighted-requires-2
+    array-read-weigh-last
+    array-copy-out-weigh-last
+    weigh-last-requires
+    array-read-weigh-more
+    array-copy-out-weigh-more
+    weigh-more-requires
+    array-read-weigh-more-2
+    array-copy-out-weigh-more-2
+    weigh-more-requires-2
+    settle-weighed-requires
     returns)
