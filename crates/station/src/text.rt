@@ -1,7 +1,7 @@
 // The text that `terminals` prints, in ASCII. Each function writes from `at` on and answers where its text ends.
 use refusal::Refusal;
 ghost use mathlib.Core.Path.{_≡_};
-ghost use Prim.Native.Nat.{_+_, _*_, _≤_, _<_};
+ghost use Prim.Native.Nat.{_+_, _≤_, _<_};
 ghost use lib.ListN.{length};
 ghost use lib.Seq.{sets};
 ghost use Rattle.station.specs.Text.{decimal, word, line, lines, refusalText};
