@@ -1,21 +1,12 @@
 //! Main tables and challenges to compare and race on.
 
 use tealbobbin::field::P;
+use tealbobbin::plain::extension::column::{CI, CLK, IS_PADDING, MULTIPLICITY, NIA};
+pub use tealbobbin::plain::extension::opcode::ALL as OPCODES;
 use tealbobbin::plain::pad;
 use tealbobbin::random::Random;
 
-const CLK: usize = 0;
-const IS_PADDING: usize = 1;
-const CI: usize = 3;
-const NIA: usize = 4;
 const IB0: usize = 5;
-const MULTIPLICITY: usize = 38;
-
-/// The opcodes.
-pub const OPCODES: [u64; 46] = [
-    0, 1, 2, 3, 4, 6, 8, 9, 10, 11, 12, 14, 16, 17, 18, 19, 20, 22, 24, 25, 26, 28, 30, 32, 33, 34, 36, 40, 41, 42, 44, 48, 49, 50,
-    56, 57, 58, 64, 65, 66, 72, 73, 74, 80, 82, 88,
-];
 
 /// Words that are no opcode, some of them one in their low bits.
 pub const OTHERS: [u64; 12] = [5, 7, 13, 27, 35, 89, 127, 256 + 73, (1 << 32) + 18, (1 << 32) + 73, P - 1, P - 73];

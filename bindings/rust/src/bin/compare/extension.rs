@@ -4,7 +4,7 @@ use tealbobbin::abi;
 use tealbobbin::field::{Element, P};
 use tealbobbin::plain;
 use tealbobbin::plain::batched::extend_batched;
-use tealbobbin::plain::extension::{by_row, column::*, extend_plain, opcode::DIV_MOD, Challenges, Kind, AUX_WIDTH, COLUMNS, WIDTH};
+use tealbobbin::plain::extension::{by_row, column::*, extend_plain, opcode, Challenges, Kind, AUX_WIDTH, COLUMNS, WIDTH};
 use tealbobbin::random::Random;
 
 use crate::tally::Tally;
@@ -15,12 +15,6 @@ const RECORD: usize = 189;
 const INSTRUCTION: usize = 2;
 const U32: usize = 9;
 const CLOCK: usize = 10;
-
-/// The opcodes of all instructions.
-const OPCODES: [u64; 46] = [
-    0, 1, 2, 3, 4, 6, 8, 9, 10, 11, 12, 14, 16, 17, 18, 19, 20, 22, 24, 25, 26, 28, 30, 32, 33, 34, 36, 40, 41, 42, 44, 48, 49, 50, 56, 57, 58, 64,
-    65, 66, 72, 73, 74, 80, 82, 88,
-];
 
 /// A main table and challenges, and the lengths of the slices for columns and work.
 #[derive(Clone)]
@@ -51,13 +45,13 @@ fn word(random: &mut Random, flavour: u64) -> u64 {
 /// All opcodes, as they are and out of range; arguments in and out of range; padding marked with 1 and with other words.
 fn row(random: &mut Random, flavour: u64, index: usize) -> Vec<u64> {
     let mut row: Vec<u64> = (0..WIDTH).map(|_| word(random, flavour)).collect();
-    let opcode = OPCODES[random.word() as usize % OPCODES.len()];
+    let code = opcode::ALL[random.word() as usize % opcode::ALL.len()];
     row[CI] = match random.word() % 24 {
-        0 => opcode + (1 << 8),
-        1 => opcode + (1 << 32),
+        0 => code + (1 << 8),
+        1 => code + (1 << 32),
         2 => random.word() % 100,
         3 => row[CI],
-        _ => opcode,
+        _ => code,
     };
     row[NIA] = match random.word() % 12 {
         0 => (1 << 32) + random.word() % 8,
@@ -286,7 +280,7 @@ fn zero_denominators(tally: &mut Tally, random: &mut Random) {
         let mut case = Case::sound(random, 1 + round % 9);
         for row in case.main.chunks_exact_mut(WIDTH) {
             if round % 3 == 0 {
-                row[CI] = DIV_MOD;
+                row[CI] = opcode::DIV_MOD;
             }
             if round % 4 == 0 {
                 row[CLK] = random.word() % P;
