@@ -103,14 +103,14 @@ fn write_cells(main: &[u64], challenges: &[u64], work: &[u64], aux: &mut [u64])
 {
     let rows = main.len() / MainIndex::COUNT;
     let mut cells = first_cells();
-    let mut prev = [0u64; MainIndex::COUNT];
+    let mut window = [[0u64; MainIndex::COUNT]; 2];
     let mut c: usize = 0;
     while c < rows {
-        let curr = row(main, c);
+        window[0] = window[1];
+        window[1] = row(main, c);
         let inverse = element_at(work, c * 6);
-        cells = next_cells(cells, [prev, curr], challenges, inverse);
+        cells = next_cells(cells, window, challenges, inverse);
         put_cells(aux, c, cells);
-        prev = curr;
         c += 1;
     }
 }
