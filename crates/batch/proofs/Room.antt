@@ -8,13 +8,14 @@ use lib.Dec.{eqb, lit<}
 use lib.ListN.{length}
 use borrow.Author.Tests.{eqb-true}
 use Rattle.base_field.proofs.Below.{and-true}
-use Rattle.batch.specs.declared.Counts.{Counts}
-use Rattle.batch.specs.declared.OpenAnswer.the-variants.{Opened}
+use Rattle.batch_reader.specs.declared.Counts.{Counts}
+use Rattle.batch_reader.specs.declared.OpenAnswer.the-variants.{Opened}
 use Rattle.batch_commands.specs.Format.{ROW, OP-STACK, RAM, JUMP-STACK, SAMPLED, DIGEST, INPUT, OUTPUT}
-use Rattle.batch.specs.Reading.{Reading, read, refused, reading, commandsOf}
-use Rattle.batch.specs.Open.{rightLengths, answerOf, brought}
-use Rattle.batch.proofs.Commands.{length-contents}
-use Rattle.batch.proofs.Bounds.{bounded}
+use Rattle.batch_reader.specs.Reading.{Reading, read, refused, reading, commandsOf}
+use Rattle.batch_reader.specs.Answers.{answerOf, brought}
+use Rattle.batch.specs.Open.{rightLengths}
+use Rattle.batch_reader.proofs.Commands.{length-contents}
+use Rattle.batch_reader.proofs.Bounds.{bounded}
 
 read-by : (r : Reading) (counts : Counts) → answerOf r ≡ Opened counts → r ≡ read (commandsOf r)
 read-by (read commands) counts e = refl

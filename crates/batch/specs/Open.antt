@@ -1,17 +1,15 @@
 -- Open: the answer, and what each lent slice holds then.
 use mathlib.Core.Bool.{Bool, cond, not, _&&_, _||_}
-use mathlib.Core.List.{List, [], _∷_, _++_}
+use mathlib.Core.List.{List, [], _∷_}
 use Prim.Native.Nat.{ℕ}
 use lib.Dec.{eqb, ltb}
-use lib.ListN.{length, drop, getD}
+use lib.ListN.{length}
 use Rattle.refusal.specs.Number.{numberOf}
 use Rattle.refusal.specs.declared.Refusal.the-variants.{SliceLength}
-use Rattle.batch.specs.declared.Counts.{Counts}
-use Rattle.batch.specs.declared.OpenAnswer.{OpenAnswer}
-use Rattle.batch.specs.declared.OpenAnswer.the-variants.{Opened, Refused}
-use Rattle.batch_commands.specs.Format.{ROW, OP-STACK, RAM, JUMP-STACK, INPUT, OUTPUT}
-use Rattle.batch.specs.Commands.{counts, contents}
-use Rattle.batch.specs.Reading.{Reading, read, refused, reading, commandsOf}
+use Rattle.batch_reader.specs.declared.OpenAnswer.{OpenAnswer}
+use Rattle.batch_reader.specs.declared.OpenAnswer.the-variants.{Opened, Refused}
+use Rattle.batch_reader.specs.Reading.{reading}
+use Rattle.batch_reader.specs.Answers.{answerOf, brought, written}
 
 -- the paper's number and its six counts: 0 for a batch that was opened
 abbrev pub openNumber : OpenAnswer → ℕ
@@ -33,37 +31,12 @@ rightLengths trace op-stack ram jump-stack sampled digest input output =
     && eqb input 64
     && eqb output 64
 
--- "six counts: rows, op stack, RAM, jump stack, input, output", where each command came as often as `came` says
-abbrev pub countsIn : List ℕ → Counts
-countsIn came =
-    record {
-      rows = getD came ROW 0;
-      «op_stack» = getD came OP-STACK 0;
-      ram = getD came RAM 0;
-      «jump_stack» = getD came JUMP-STACK 0;
-      input = getD came INPUT 0;
-      output = getD came OUTPUT 0;
-    }
-
-abbrev pub answerOf : Reading → OpenAnswer
-answerOf (read commands) = Opened (countsIn (counts commands))
-answerOf (refused refusal) = Refused refusal
-
 -- "1 over 16,384 bytes or at another slice length. Then left to right"
 unfoldable pub openAnswer : List ℕ → ℕ → ℕ → ℕ → ℕ → ℕ → ℕ → ℕ → ℕ → OpenAnswer
 unfolding reading
 openAnswer batch trace op-stack ram jump-stack sampled digest input output =
     cond (ltb 16384 (length batch) || not (rightLengths trace op-stack ram jump-stack sampled digest input output)) (Refused SliceLength)
     (answerOf (reading batch))
-
--- what the batch brings for one of the slices
-unfoldable pub brought : ℕ → List ℕ → List ℕ
-unfolding contents reading
-brought code batch = contents code (commandsOf (reading batch))
-
--- a slice with words from its start on; "Slice words past the counts stay."
-abbrev pub written : List ℕ → List ℕ → List ℕ
-written ws slice = ws ++ drop (length ws) slice
 
 -- what a slice holds after an answer
 unfoldable pub openSlice : OpenAnswer → ℕ → List ℕ → List ℕ → List ℕ

@@ -1,26 +1,12 @@
-// The reader of batches: it decides on its answer first, and writes only then.
+// Open: it decides on its answer first, and writes only then.
+use batch_reader::OpenAnswer;
+use batch_reader::read;
+use batch_reader::unchecked::put_contents;
 use refusal::Refusal;
 ghost use mathlib.Core.Path.{_≡_};
 ghost use lib.ListN.{length};
 ghost use Rattle.batch_commands.specs.Format.{ROW, OP-STACK, RAM, JUMP-STACK, SAMPLED, DIGEST, INPUT, OUTPUT};
 ghost use Rattle.batch.specs.Open.{rightLengths, openAnswer, openSlice};
-
-mod opener;
-mod reader;
-
-pub struct Counts {
-    pub rows: usize,
-    pub op_stack: usize,
-    pub ram: usize,
-    pub jump_stack: usize,
-    pub input: usize,
-    pub output: usize,
-}
-
-pub enum OpenAnswer {
-    Opened(Counts),
-    Refused(Refusal),
-}
 
 // Longer batches are turned away unread.
 const MAX_LEN: usize = 16384;
@@ -98,18 +84,18 @@ pub fn open(
     ) {
         return OpenAnswer::Refused(Refusal::SliceLength);
     }
-    let answer = reader::read(batch);
+    let answer = read(batch);
     match answer {
         OpenAnswer::Refused(refusal) => OpenAnswer::Refused(refusal),
         OpenAnswer::Opened(counts) => {
-            reader::put_contents(batch, batch_commands::ROW, trace);
-            reader::put_contents(batch, batch_commands::OP_STACK, op_stack);
-            reader::put_contents(batch, batch_commands::RAM, ram);
-            reader::put_contents(batch, batch_commands::JUMP_STACK, jump_stack);
-            reader::put_contents(batch, batch_commands::SAMPLED, sampled);
-            reader::put_contents(batch, batch_commands::DIGEST, digest);
-            reader::put_contents(batch, batch_commands::INPUT, input);
-            reader::put_contents(batch, batch_commands::OUTPUT, output);
+            put_contents(batch, batch_commands::ROW, trace);
+            put_contents(batch, batch_commands::OP_STACK, op_stack);
+            put_contents(batch, batch_commands::RAM, ram);
+            put_contents(batch, batch_commands::JUMP_STACK, jump_stack);
+            put_contents(batch, batch_commands::SAMPLED, sampled);
+            put_contents(batch, batch_commands::DIGEST, digest);
+            put_contents(batch, batch_commands::INPUT, input);
+            put_contents(batch, batch_commands::OUTPUT, output);
             OpenAnswer::Opened(counts)
         }
     }

@@ -1,3 +1,2 @@
--- Laws on bytes and heads.
-pub mod Bytes
+-- Laws on heads.
 pub mod Heads

@@ -10,7 +10,7 @@ use Rattle.refusal.specs.declared.Answer.the-variants.{Done, Refused}
 use Rattle.refusal.specs.declared.Refusal.the-variants.{UnknownCommand, BatchCutOff, CommandOutOfPlace, RowCount, WordNotBelowP}
 use Rattle.batch_commands.specs.declared.Head.{Head}
 use Rattle.batch_commands.specs.declared.Head.the-variants.{Unknown, CutOff, Whole}
-use Rattle.batch_commands.specs.Words.{number, words}
+use Rattle.batch_words.specs.Words.{number, words}
 use Rattle.batch_commands.specs.Format.{END, TRACE-ROWS, ROW, SAMPLED, DIGEST, width, wordsIn}
 
 -- how often a command may stand: "06 and 07 once each", 01 too, as many rows as 01 announced, "At most 128 differences a list, 64 input and 64 output

@@ -4,7 +4,7 @@ use mathlib.Core.List.{List, [], _∷_}
 use Prim.Native.Nat.{ℕ, _/_}
 use lib.Dec.{eqb}
 use lib.ListN.{getD}
-use Rattle.batch_commands.specs.Words.{words}
+use Rattle.batch_words.specs.Words.{words}
 
 -- "01 trace rows, 4 bytes, 1–32; 02 a row, 312 bytes; 03, 04, 05 a difference for op stack, RAM, jump stack, 8; 06 the sampled challenges, 1,416;
 -- 07 program digest, 40; 08 input word, 8; 09 output word, 8; 00 end."

@@ -1,4 +1,3 @@
 -- The format of a batch, command by command.
-pub mod Words
 pub mod Format
 pub mod Fault

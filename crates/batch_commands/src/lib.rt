@@ -5,7 +5,6 @@ ghost use Rattle.batch_commands.specs.Fault.{headOf};
 
 // For callers that know which command it is, and that its operand is whole.
 pub mod unchecked;
-mod words;
 
 pub const END: usize = 0;
 

@@ -1,7 +1,7 @@
 // A command whose operand stands whole at a place of the batch.
-use crate::words::half_at;
-use crate::words::put_words;
-use crate::words::words_below;
+use batch_words::unchecked::half_at;
+use batch_words::unchecked::put_words;
+use batch_words::unchecked::words_below;
 use refusal::Answer;
 use refusal::Refusal;
 ghost use mathlib.Core.Path.{_≡_};
@@ -10,7 +10,7 @@ ghost use mathlib.Core.List.{_++_};
 ghost use Prim.Native.Nat.{_+_, _<_, _≤_};
 ghost use lib.Dec.{eqb};
 ghost use lib.ListN.{length, take, drop};
-ghost use Rattle.batch_commands.specs.Words.{number};
+ghost use Rattle.batch_words.specs.Words.{number};
 ghost use Rattle.batch_commands.specs.Format.{TRACE-ROWS, width, wordsFor};
 ghost use Rattle.batch_commands.specs.Fault.{limit, missing, outOfPlace, wrongRowCount, judged};
 

@@ -4,9 +4,9 @@ use Rattle.algebra.specs.Modulus as base
 use Rattle.algebra.specs.Modulus.{power}
 use Rattle.algebra.specs.Element as plain
 use Rattle.field.specs.Element.{sum, difference, product, scale, inverse}
-use Rattle.isa.specs.Decode.{decoded}
-use Rattle.challenges.specs.LookupTable.{lookupTable}
-use Rattle.challenges.specs.CrossTable.{evaluation, runningProduct, runningSum}
+use Rattle.decoding.specs.Decode.{decoded}
+use Rattle.tip5.specs.LookupTable.{lookupTable}
+use Rattle.cross_table_argument.specs.CrossTable.{evaluation, runningProduct, runningSum}
 use Rattle.processor_entries.specs.Row.{weigh}
 use Rattle.processor_entries.specs.Entries.{inputEntries, outputEntries, instructionEntries, opStackEntries, ramEntries, ramAccesses, accessesFrom, jumpStackEntries, hashInputEntries, hashDigestEntries, spongeEntries, u32Lookups, u32Entries, clockEntries}
 use Rattle.processor_entries.specs.Columns.{rowEntries, entries, cell}

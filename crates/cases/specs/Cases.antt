@@ -6,11 +6,11 @@ use lib.ListN.{getD}
 use Rattle.algebra.specs.Modulus as base
 use Rattle.algebra.specs.Modulus.{p}
 use Rattle.field.specs.Element.{X, lift, product, inverse}
-use Rattle.isa.specs.Decode.{decoded}
-use Rattle.isa.specs.declared.Decoded.the-variants.{Read, Nothing}
+use Rattle.decoding.specs.Decode.{decoded}
+use Rattle.decoding.specs.declared.Decoded.the-variants.{Read, Nothing}
 use Rattle.isa.specs.declared.Instruction.the-variants.{ReadIo}
-use Rattle.challenges.specs.LookupTable.{lookupTable}
-use Rattle.challenges.specs.CrossTable.{evaluationArgument}
+use Rattle.tip5.specs.LookupTable.{lookupTable}
+use Rattle.cross_table_argument.specs.CrossTable.{evaluationArgument}
 use Rattle.processor_entries.specs.Entries.{inputEntries, outputEntries, u32Lookups}
 use Rattle.processor_entries.specs.Columns.{columns, cell}
 use Rattle.cases.specs.Tables.{row, prev, with-ci, example, twos}

@@ -13,8 +13,8 @@ use Rattle.refusal.specs.declared.Answer.{Answer}
 use Rattle.refusal.specs.declared.Answer.the-variants.{Done, Refused}
 use Rattle.refusal.specs.declared.Refusal.the-variants.{SliceLength, WordNotBelowP}
 use Rattle.air.specs.ChallengeId.{COMPRESS-PROGRAM-DIGEST-INDETERMINATE, STANDARD-INPUT-INDETERMINATE, STANDARD-OUTPUT-INDETERMINATE, LOOKUP-TABLE-PUBLIC-INDETERMINATE}
-use Rattle.challenges.specs.CrossTable.{evaluationArgument}
-use Rattle.challenges.specs.LookupTable.{lookupTable}
+use Rattle.cross_table_argument.specs.CrossTable.{evaluationArgument}
+use Rattle.tip5.specs.LookupTable.{lookupTable}
 
 -- the challenge at a place of the record
 abbrev pub challengeAt : List ℕ → ℕ → XFieldElement

@@ -1,4 +1,2 @@
 -- The derived challenges.
-pub mod CrossTable
-pub mod LookupTable
 pub mod Derived

@@ -1,8 +1,9 @@
 // The record of challenges: the sampled ones, then four that follow from them and from the claim.
-use crate::cross_table_argument::compute_terminal;
 use air::ChallengeId;
+use cross_table_argument::unchecked::compute_terminal;
 use field::XFieldElement;
 use refusal::Answer;
+use refusal::MAX_LEN;
 use refusal::Refusal;
 ghost use mathlib.Core.Path.{_≡_};
 ghost use mathlib.Core.Bool.{true};
@@ -14,18 +15,12 @@ ghost use Rattle.base_field.specs.Words.{allBelow};
 ghost use Rattle.field.specs.Element.{wordsOf};
 ghost use Rattle.challenges.specs.Derived.{terminal, rightLengths, allWordsBelow, derivedRecord, challengesAnswer, challengesRecord};
 
-mod cross_table_argument;
-pub mod tip5;
-
 // Three words an element.
 const SAMPLED_LEN: usize = Challenges::SAMPLE_COUNT * 3;
 
 const RECORD_LEN: usize = Challenges::COUNT * 3;
 
 const DIGEST_LEN: usize = 5;
-
-// Input and output that have more words are long.
-const MAX_LEN: usize = 4194304;
 
 // The record itself lies in a slice that the caller lends.
 pub struct Challenges {}

@@ -1,61 +1,28 @@
 // The C ABI. A slice is a pointer and a count. Every function answers 0 or the number of the refusal,
 // and writes nothing on a refusal.
-use base_field::BaseAnswer;
-use batch::OpenAnswer;
+use abi_answers::put_base;
+use abi_answers::put_decoded;
+use abi_answers::put_element;
+use abi_answers::unchecked::put_counts;
 use challenges::Challenges;
-use field::ElementAnswer;
-use isa::DecodeAnswer;
-use isa::Decoded;
 ghost use mathlib.Core.Path.{_≡_};
 ghost use lib.ListN.{length};
 ghost use Rattle.base_field.specs.Answers.{baseAdd, baseSub, baseMul, baseInverse};
 ghost use Rattle.field.specs.Answers.{elementAdd, elementSub, elementMul, elementScale, elementInverse};
 ghost use Rattle.refusal.specs.Number.{answerNumberOf};
-ghost use Rattle.isa.specs.Answer.{decodeAnswer};
+ghost use Rattle.decoding.specs.Answer.{decodeAnswer};
 ghost use Rattle.challenges.specs.Derived.{challengesAnswer, challengesRecord};
-ghost use Rattle.running_arguments.specs.Answers.{scanAnswer, scanWords, scannedMaps, scannedProducts, scannedSums};
-ghost use Rattle.processor_table.specs.Fill.{fillAnswer, fillTable};
-ghost use Rattle.processor_table.specs.Pad.{padAnswer, padTable};
-ghost use Rattle.processor.specs.Extend.{extendAnswer, extendAux, extendWork};
+ghost use Rattle.scans.specs.Scan.{scannedMaps, scannedProducts, scannedSums};
+ghost use Rattle.running_arguments.specs.Answers.{scanAnswer, scanWords};
+ghost use Rattle.table_fill.specs.Fill.{fillAnswer, fillTable};
+ghost use Rattle.table_pad.specs.Pad.{padAnswer, padTable};
+ghost use Rattle.extension_answer.specs.Answer.{extendAnswer};
+ghost use Rattle.processor.specs.Extend.{extendAux, extendWork};
 ghost use Rattle.batch_commands.specs.Format.{ROW, OP-STACK, RAM, JUMP-STACK, SAMPLED, DIGEST, INPUT, OUTPUT};
 ghost use Rattle.batch.specs.Open.{openNumber, openSlice};
-ghost use Rattle.engine.specs.Open.{openInto, countsInto};
-ghost use Rattle.engine.specs.Decode.{decodeNumberInto, decodeInto};
-ghost use Rattle.engine.specs.Field.{baseNumberInto, baseInto, elementNumberInto, elementInto, elementNumber, elementOut, elementNumber2, elementOut2};
-
-// Hands a base answer out through a slice of one word.
-fn put_base(answer: BaseAnswer, out: &mut [u64]) -> u32
-    ensures number { λ r. ⌜ r ≡ baseNumberInto (now (out .entry)) answer ⌝ }
-    ensures written { λ r. ⌜ now (out .exit) ≡ baseInto (now (out .entry)) answer ⌝ }
-{
-    if out.len() != 1 {
-        return 1;
-    }
-    match answer {
-        BaseAnswer::Word(w) => {
-            out[0] = w;
-            0
-        }
-        BaseAnswer::Refused(refusal) => refusal::number(refusal),
-    }
-}
-
-// Hands an element answer out through a slice of three words.
-fn put_element(answer: ElementAnswer, out: &mut [u64]) -> u32
-    ensures number { λ r. ⌜ r ≡ elementNumberInto (now (out .entry)) answer ⌝ }
-    ensures written { λ r. ⌜ now (out .exit) ≡ elementInto (now (out .entry)) answer ⌝ }
-{
-    if out.len() != 3 {
-        return 1;
-    }
-    match answer {
-        ElementAnswer::Element(e) => {
-            field::unchecked::put_element(out, 0, e);
-            0
-        }
-        ElementAnswer::Refused(refusal) => refusal::number(refusal),
-    }
-}
+ghost use Rattle.abi_answers.specs.Open.{openInto, countsInto};
+ghost use Rattle.abi_answers.specs.Decode.{decodeNumberInto, decodeInto};
+ghost use Rattle.abi_answers.specs.Field.{baseNumberInto, baseInto, elementNumber, elementOut, elementNumber2, elementOut2};
 
 #[no_mangle]
 pub extern "C" fn tealbobbin_base_add(a: u64, b: u64, out: &mut [u64]) -> u32
@@ -167,31 +134,7 @@ pub extern "C" fn tealbobbin_decode(row: &[u64], out: &mut [u64]) -> u32
     ensures number { λ r. ⌜ r ≡ decodeNumberInto (now (out .entry)) (decodeAnswer (now (row .entry))) ⌝ }
     ensures written { λ r. ⌜ now (out .exit) ≡ decodeInto (now (out .entry)) (decodeAnswer (now (row .entry))) ⌝ }
 {
-    put_decoded(isa::decode(row), out)
-}
-
-fn put_decoded(answer: DecodeAnswer, out: &mut [u64]) -> u32
-    ensures number { λ r. ⌜ r ≡ decodeNumberInto (now (out .entry)) answer ⌝ }
-    ensures written { λ r. ⌜ now (out .exit) ≡ decodeInto (now (out .entry)) answer ⌝ }
-{
-    if out.len() != 2 {
-        return 1;
-    }
-    match answer {
-        DecodeAnswer::Row(decoded) => match decoded {
-            Decoded::Read(i) => {
-                out[0] = 1;
-                out[1] = isa::opcode(i);
-                0
-            }
-            Decoded::Nothing => {
-                out[0] = 0;
-                out[1] = 0;
-                0
-            }
-        },
-        DecodeAnswer::Refused(refusal) => refusal::number(refusal),
-    }
+    put_decoded(decoding::decode(row), out)
 }
 
 // Writes the record of 189 words: the sampled challenges and the four that are derived from them.
@@ -246,7 +189,7 @@ pub extern "C" fn tealbobbin_fill(
     ensures number { λ r. ⌜ r ≡ answerNumberOf (fillAnswer (now (trace .entry)) (now («op_stack» .entry)) (now (ram .entry)) (now («jump_stack» .entry)) (now (table .entry))) ⌝ }
     ensures filled { λ r. ⌜ now (table .exit) ≡ fillTable (now (trace .entry)) (now («op_stack» .entry)) (now (ram .entry)) (now («jump_stack» .entry)) (now (table .entry)) ⌝ }
 {
-    refusal::answer_number(processor_table::fill(trace, op_stack, ram, jump_stack, table))
+    refusal::answer_number(table_fill::fill(trace, op_stack, ram, jump_stack, table))
 }
 
 // Pads the rows from `table_len` on.
@@ -255,7 +198,7 @@ pub extern "C" fn tealbobbin_pad(table: &mut [u64], table_len: usize) -> u32
     ensures number { λ r. ⌜ r ≡ answerNumberOf (padAnswer (now (table .entry)) «table_len») ⌝ }
     ensures padded { λ r. ⌜ now (table .exit) ≡ padTable (now (table .entry)) «table_len» ⌝ }
 {
-    refusal::answer_number(processor_table::pad(table, table_len))
+    refusal::answer_number(table_pad::pad(table, table_len))
 }
 
 // Writes the eleven columns of the auxiliary table, and zeros in `work`.
@@ -272,26 +215,6 @@ pub extern "C" fn tealbobbin_extend(
     ensures cleared { λ r. ⌜ now (work .exit) ≡ extendWork (now (main .entry)) (now (challenges .entry)) chunk (now (aux .entry)) (now (work .entry)) ⌝ }
 {
     refusal::answer_number(processor::extend(main, challenges, chunk, aux, work))
-}
-
-// Hands the counts of an opened batch out through a slice of six words.
-fn put_counts(answer: OpenAnswer, counts: &mut [u64]) -> u32
-    requires { ⌜ length (now counts) ≡ 6 ⌝ }
-    ensures number { λ r. ⌜ r ≡ openNumber answer ⌝ }
-    ensures counts { λ r. ⌜ now (counts .exit) ≡ countsInto answer (now (counts .entry)) ⌝ }
-{
-    match answer {
-        OpenAnswer::Refused(refusal) => refusal::number(refusal),
-        OpenAnswer::Opened(opened) => {
-            counts[0] = opened.rows as u64;
-            counts[1] = opened.op_stack as u64;
-            counts[2] = opened.ram as u64;
-            counts[3] = opened.jump_stack as u64;
-            counts[4] = opened.input as u64;
-            counts[5] = opened.output as u64;
-            0
-        }
-    }
 }
 
 // Opens a batch: rows and words into the slices, how many into `counts`.

@@ -1,6 +1,6 @@
 // Compares the instructions with the list on standard input, which list.py takes from the Rust.
 // Each word below 512, and each of them with 2^32 added, is decoded with the arguments 0 to 16 and p - 1.
-use isa::Decoded;
+use decoding::Decoded;
 use isa::Influence;
 ghost use Prim.Native.Nat.{_<_, _≤_};
 
@@ -112,7 +112,7 @@ fn same(a: Influence, b: Influence) -> bool {
 
 // Whether decoding the two words gives what the word's line says.
 fn agrees(line: &[u8], word: u64, argument: u64) -> bool {
-    let decoded = isa::instruction_from(word, argument);
+    let decoded = decoding::instruction_from(word, argument);
     if line.len() < LINE {
         return match decoded {
             Decoded::Read(_) => false,

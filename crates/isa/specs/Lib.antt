@@ -1,5 +1,2 @@
--- The instructions and their decoding.
+-- The instructions.
 pub mod Instruction
-pub mod Decode
-pub mod Answer
-pub mod Theorems

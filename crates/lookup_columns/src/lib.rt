@@ -1,2 +1,2 @@
-// What a row, or a window of two, brings to the three lookup columns.
+// What a row brings to the instruction lookup's column and to the clock jump difference lookup's.
 pub mod unchecked;

@@ -1,7 +1,7 @@
-// Compares tip5's published table, on standard input as lines of three digits, with the const of `challenges`.
-use challenges::tip5::LOOKUP_TABLE;
+// Compares tip5's published table, on standard input as lines of three digits, with the const of `tip5`.
 use libc::STDIN_FILENO;
 use libc::STDOUT_FILENO;
+use tip5::LOOKUP_TABLE;
 ghost use mathlib.Core.Path.{_≡_};
 ghost use Prim.Native.Nat.{_≤_};
 

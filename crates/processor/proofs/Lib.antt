@@ -1,3 +1,2 @@
 -- Laws of extension.
-pub mod Accepted
-pub mod Cells
+pub mod Written

@@ -4,8 +4,8 @@ use mathlib.Core.List.{List, [], _∷_, _++_, append-assoc, append-nil}
 use Prim.Native.Nat.{ℕ, zero, suc, _+_, _-_, _*_, _≤_, _<_}
 use native.Mathlib.Nat.{zero-add, add-zero, suc-add, suc-mul, add-mul, zero-mul}
 use native.Mathlib.Omega.{arith}
-use lib.ListN.{length, take, drop, getD, set, length-append, length-drop, take-append-drop, List·getD-append}
-use lib.Seq.{take-add, drop-drop, length-take-le, take-at, drop-at, getD-append-add, set-append-left}
+use lib.ListN.{length, take, drop, getD, set, length-append, length-drop, take-append-drop, drop-of-length-le, List·getD-append}
+use lib.Seq.{sets, sets-eq, take-add, drop-drop, length-take-le, take-at, drop-at, getD-append-add, set-append-left}
 use Rattle.processor_table.specs.Rows.{rowAt, rowsFrom}
 use Rattle.processor_table.specs.Writes.{withRow, withRows}
 
@@ -112,3 +112,19 @@ module _ (width : ℕ) (row : ℕ → List ℕ) (n : ℕ) (rest : List ℕ) (who
         set-append-left (row d) (rowsFrom row (suc d) (n - suc d) ++ rest) j v (omega arith),
         here,
       )
+
+-- a row of `width` words
+pub put-row : (width : ℕ) (table : List ℕ) (c : ℕ) (row : List ℕ) → length row ≡ width → suc c * width ≤ length table
+    → sets table (c * width) row ≡ withRow width table c row
+put-row width table c row e h =
+    let s = suc-mul c width in
+    let room : c * width + length row ≤ length table = omega (arith, e) in
+    let end : c * width + length row ≡ suc c * width = omega (arith, e) in
+    sets-eq row table (c * width) room ∙ rw end
+
+-- every row of a table
+pub all-rows : (width : ℕ) (table : List ℕ) (row : ℕ → List ℕ) (n : ℕ) → length table ≡ n * width → withRows width table row 0 (n - 0) ≡ rowsFrom row 0 n
+unfolding withRows
+all-rows width table row n h =
+    let e : n - 0 ≡ n = omega arith in
+    rw (e, zero-mul, zero-add, drop-of-length-le table {i = n * width} (omega arith), append-nil)

@@ -1,5 +1,3 @@
--- What fill and pad leave in the main table.
+-- A table as its rows, and rows written into it.
 pub mod Rows
 pub mod Writes
-pub mod Fill
-pub mod Pad

@@ -20,8 +20,3 @@ abbrev pub raised : List ℕ → ℕ → ℕ → List ℕ
 raised table c n =
     let at = c * 39 + CLOCK-JUMP-DIFFERENCE-LOOKUP-MULTIPLICITY in
     set table at (plus (getD table at 0) n)
-
--- by one for each difference
-unfoldable pub counted : List ℕ → List ℕ → List ℕ
-counted [] table = table
-counted (d ∷ ds) table = counted ds (raised table d 1)

@@ -1,10 +1,10 @@
 // Rows by their index; the caller proves that the table reaches that far.
 use air::MainIndex;
 ghost use mathlib.Core.Path.{_≡_};
-ghost use Prim.Native.Nat.{_+_, _*_, _≤_};
+ghost use Prim.Native.Nat.{_+_, _*_, _≤_, _<_};
 ghost use lib.ListN.{length};
-ghost use Rattle.processor_table.specs.Rows.{rowAt};
-ghost use Rattle.processor_table.specs.Writes.{withRow};
+ghost use Rattle.processor_table.specs.Rows.{rows, rowAt};
+ghost use Rattle.processor_table.specs.Writes.{withRow, raised};
 
 pub fn row(table: &[u64], c: usize) -> [u64; MainIndex::COUNT]
     requires { ⌜ (c + 1) * 39 ≤ length (now table) ⌝ }
@@ -20,7 +20,7 @@ pub fn row(table: &[u64], c: usize) -> [u64; MainIndex::COUNT]
     row
 }
 
-pub(crate) fn put_row(table: &mut [u64], c: usize, row: [u64; MainIndex::COUNT])
+pub fn put_row(table: &mut [u64], c: usize, row: [u64; MainIndex::COUNT])
     requires { ⌜ (c + 1) * 39 ≤ length (now table) ⌝ }
     ensures { λ r. ⌜ now (table .exit) ≡ withRow 39 (now (table .entry)) c row ⌝ }
 {
@@ -30,4 +30,13 @@ pub(crate) fn put_row(table: &mut [u64], c: usize, row: [u64; MainIndex::COUNT])
         table[at + i] = row[i];
         i += 1;
     }
+}
+
+// Row c's multiplicity grows, modulo p.
+pub fn raise_multiplicity(table: &mut [u64], c: usize, by: u64)
+    requires { ⌜ (c < rows (now table)) × (by ≤ 4194304) ⌝ }
+    ensures { λ r. ⌜ now (table .exit) ≡ raised (now (table .entry)) c by ⌝ }
+{
+    let at = c * MainIndex::COUNT + MainIndex::CLOCK_JUMP_DIFFERENCE_LOOKUP_MULTIPLICITY.0;
+    table[at] = base_field::unchecked::add(table[at], by);
 }

@@ -8,8 +8,8 @@ use Rattle.air.specs.Count.{upTo}
 use Rattle.field.specs.declared.XFieldElement.{XFieldElement}
 use Rattle.isa.specs.Instruction.{opcodeOf, influenceOf}
 use Rattle.isa.specs.declared.Instruction.{Instruction}
-use Rattle.isa.specs.declared.Decoded.{Decoded}
-use Rattle.isa.specs.declared.Decoded.the-variants.{Read, Nothing}
+use Rattle.decoding.specs.declared.Decoded.{Decoded}
+use Rattle.decoding.specs.declared.Decoded.the-variants.{Read, Nothing}
 use Rattle.processor_entries.specs.Row.{isPadding, instructionOf}
 use Rattle.processor_entries.specs.Entries.{ifRead, shorter, change, opStackEntry, opStackEntries, ramEntry, ramAccesses, ramEntries}
 use Rattle.product_columns.specs.Rows.{previousInstruction}

@@ -1,6 +1,3 @@
--- Laws that more than one proof cites.
-pub mod Weigh
+-- Laws of the entries that the previous row's instruction brings.
 pub mod Change
 pub mod Entered
-pub mod Run
-pub mod Accesses

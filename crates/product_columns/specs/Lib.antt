@@ -1,3 +1,2 @@
 -- What the functions over a window answer.
 pub mod Rows
-pub mod Access

@@ -2,6 +2,9 @@
 ghost use mathlib.Core.Path.{_≡_};
 ghost use Rattle.refusal.specs.Number.{numberOf, answerNumberOf};
 
+// A table with more rows is long, and so is a list with more words.
+pub const MAX_LEN: usize = 4194304;
+
 pub enum Refusal {
     SliceLength,
     WordNotBelowP,

@@ -1,7 +1,2 @@
 -- Laws that more than one proof cites.
-pub mod Items
-pub mod Scans
-pub mod Scanned
-pub mod InPlace
-pub mod Steps
 pub mod Answers

@@ -1,4 +1,2 @@
--- What the scans leave.
-pub mod Scan
+-- What the public scans answer and leave.
 pub mod Answers
-pub mod Maps

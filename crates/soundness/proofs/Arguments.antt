@@ -10,7 +10,7 @@ use Rattle.algebra.proofs.ElementField.{element-field as K}
 use Rattle.field.specs.Element.{lift, zero, one, sum, difference, product, scale, inverse}
 use Rattle.field.specs.declared.XFieldElement.{XFieldElement}
 use Rattle.field.proofs.Laws.{into, into-injective, into-zero, into-one, into-sum, into-difference, into-product, into-scale, into-inverse, from-below, difference-canonical}
-use Rattle.challenges.specs.CrossTable.{Fraction, evaluation, evaluationArgument, runningProduct, permutationArgument, runningSum, lookupArgument}
+use Rattle.cross_table_argument.specs.CrossTable.{Fraction, evaluation, evaluationArgument, runningProduct, permutationArgument, runningSum, lookupArgument}
 use Rattle.soundness.specs.Counting.{Defined}
 use Rattle.soundness.proofs.Lists.{All-map}
 use Rattle.soundness.proofs.Polynomials as ring

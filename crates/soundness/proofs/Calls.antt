@@ -8,7 +8,8 @@ use Rattle.field.specs.Element.{elementAt}
 use Rattle.field.specs.declared.XFieldElement.{XFieldElement}
 use Rattle.processor_table.specs.Rows.{rows}
 use Rattle.processor_entries.specs.Columns.{Column}
-use Rattle.processor.specs.Extend.{extendAnswer, extendAux}
+use Rattle.extension_answer.specs.Answer.{extendAnswer}
+use Rattle.processor.specs.Extend.{extendAux}
 use Rattle.soundness.specs.Term3.{placeOf, Ends}
 use Rattle.soundness.specs.Calls.{Call, Term3OfCalls}
 use Rattle.soundness.proofs.Lists.{All-imply}

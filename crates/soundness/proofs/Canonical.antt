@@ -16,8 +16,8 @@ use Rattle.air.specs.Count.{upTo}
 use Rattle.air.specs.MainColumn.{CLK, CI, ST0, CLOCK-JUMP-DIFFERENCE-LOOKUP-MULTIPLICITY}
 use Rattle.isa.specs.Instruction.{opcodeOf, argumentOf, influenceOf}
 use Rattle.isa.specs.declared.Instruction.{Instruction}
-use Rattle.isa.specs.declared.Decoded.{Decoded}
-use Rattle.isa.specs.declared.Decoded.the-variants.{Read, Nothing}
+use Rattle.decoding.specs.declared.Decoded.{Decoded}
+use Rattle.decoding.specs.declared.Decoded.the-variants.{Read, Nothing}
 use Rattle.processor_table.specs.Rows.{rowAt}
 use Rattle.processor_entries.proofs.Weigh.{weigh-canonical}
 use Rattle.processor_entries.specs.Row.{cell, cells, isPadding, instructionOf, weigh}

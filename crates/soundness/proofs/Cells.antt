@@ -10,8 +10,8 @@ use Rattle.field.specs.Element.{elementAt}
 use Rattle.processor_table.specs.Rows.{rows}
 use Rattle.denominators.proofs.Windows.{element-in-row}
 use Rattle.processor_entries.specs.Columns.{Column, columns, input, output, instruction, opStack, ram, jumpStack, hashInput, hashDigest, sponge, u32, clock, cell}
-use Rattle.processor.specs.Extend.{cellsFrom, extended}
-use Rattle.processor.proofs.Cells.{length-cells}
+use Rattle.auxiliary_table.specs.Extended.{cellsFrom, extended}
+use Rattle.auxiliary_table.proofs.Cells.{length-cells}
 use Rattle.soundness.specs.Term3.{placeOf}
 
 -- from one word further on

@@ -9,7 +9,7 @@ use Rattle.algebra.proofs.ElementField.{element-field as K}
 use Rattle.field.specs.Element.{Canonical}
 use Rattle.field.specs.declared.XFieldElement.{XFieldElement}
 use Rattle.field.proofs.Laws.{into, into-injective}
-use Rattle.challenges.specs.CrossTable.{evaluationArgument, permutationArgument, lookupArgument}
+use Rattle.cross_table_argument.specs.CrossTable.{evaluationArgument, permutationArgument, lookupArgument}
 use Rattle.soundness.specs.Counting.{Defined, EvaluationBound, ProductBound, LookupBound}
 use Rattle.soundness.proofs.Lists.{All-map, map-injective, map-distinct}
 use Rattle.soundness.proofs.Polynomials.{product}

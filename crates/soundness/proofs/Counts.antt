@@ -18,7 +18,7 @@ use Rattle.algebra.proofs.ElementField.{element-field as K}
 use Rattle.field.specs.Element.{element, Canonical, lift, sum}
 use Rattle.field.specs.declared.XFieldElement.{XFieldElement}
 use Rattle.field.proofs.Laws.{into, into-injective, into-zero, into-sum, from-below}
-use Rattle.challenges.specs.CrossTable.{Fraction}
+use Rattle.cross_table_argument.specs.CrossTable.{Fraction}
 use Rattle.soundness.specs.Counting.{same, count, SameBag, numerators, NumeratorsDiffer}
 use Rattle.soundness.proofs.Tests.{and-both, both-and, choose, choose-cond}
 use Rattle.soundness.proofs.Products as ring-product

@@ -6,7 +6,7 @@ use Prim.Native.Nat.{ℕ}
 use Rattle.field.specs.Element.{difference, isZero}
 use Rattle.field.specs.declared.XFieldElement.{XFieldElement}
 use Rattle.field.proofs.Division.{not-zero}
-use Rattle.challenges.specs.CrossTable.{Fraction}
+use Rattle.cross_table_argument.specs.CrossTable.{Fraction}
 use Rattle.challenges.specs.Derived.{challengeAt}
 use Rattle.processor_table.specs.Rows.{rows}
 use Rattle.refusal.proofs.Answers.{or-false}

@@ -14,14 +14,15 @@ use Rattle.field.specs.Element.{Canonical, elementAt}
 use Rattle.field.specs.declared.XFieldElement.{XFieldElement}
 use Rattle.air.specs.ChallengeId.{SAMPLE-COUNT}
 use Rattle.challenges.specs.Derived.{challengeAt}
-use Rattle.challenges.specs.CrossTable.{evaluationArgument, permutationArgument}
+use Rattle.cross_table_argument.specs.CrossTable.{evaluationArgument, permutationArgument}
 use Rattle.processor_table.specs.Rows.{rows}
 use Rattle.processor_entries.specs.Columns.{Column, Kind, evaluation, product, lookup, kindOf, Entry, indeterminateOf, weightsOf, weights, entries, argument, cell}
 use Rattle.soundness.specs.Term3.{placeOf, put, entriesOf, Ends, Differ, bound, Term3}
 use Rattle.soundness.proofs.Lists.{All-imply, All-both, map-same}
 use Rattle.soundness.proofs.Columns.{all-sampled}
 use Rattle.soundness.proofs.Counting.{evaluation-bound, product-bound, lookup-bound}
-use Rattle.processor.proofs.Accepted.{Accepted, passed, written}
+use Rattle.extension_answer.proofs.Accepted.{Accepted, passed}
+use Rattle.processor.proofs.Written.{written}
 use Rattle.soundness.proofs.Cells.{cell-at}
 use Rattle.field.proofs.Units.{element-canonical}
 use Rattle.soundness.proofs.Canonical.{Words, words-below, CanonicalEntry, entries-canonical}

@@ -10,7 +10,7 @@ use Rattle.algebra.specs.Modulus.{p}
 use Rattle.algebra.specs.Polynomial.{All, Distinct}
 use Rattle.field.specs.Element.{Canonical, zero, difference}
 use Rattle.field.specs.declared.XFieldElement.{XFieldElement}
-use Rattle.challenges.specs.CrossTable.{Fraction, evaluationArgument, permutationArgument, lookupArgument}
+use Rattle.cross_table_argument.specs.CrossTable.{Fraction, evaluationArgument, permutationArgument, lookupArgument}
 
 -- whether two elements have the same three words
 unfoldable pub same : XFieldElement → XFieldElement → Bool

@@ -14,7 +14,8 @@ use Rattle.air.specs.ChallengeId.{SAMPLE-COUNT}
 use Rattle.challenges.specs.Derived.{challengeAt}
 use Rattle.processor_table.specs.Rows.{rows}
 use Rattle.processor_entries.specs.Columns.{Column, input, output, instruction, opStack, ram, jumpStack, hashInput, hashDigest, sponge, u32, clock, Kind, evaluation, product, lookup, kindOf, Entry, indeterminateOf, weightsOf, entries}
-use Rattle.processor.specs.Extend.{extendAnswer, extendAux}
+use Rattle.extension_answer.specs.Answer.{extendAnswer}
+use Rattle.processor.specs.Extend.{extendAux}
 use Rattle.soundness.specs.Counting.{SameBag, NumeratorsDiffer}
 
 -- the column's place in a row of the auxiliary table

@@ -1,6 +1,2 @@
--- Laws that the proofs share, and that the height is the smallest power of two.
-pub mod Height
-pub mod Stores
-pub mod Digits
-pub mod Zeros
+-- What the proof of `last_cells` knows of the counts.
 pub mod Opened

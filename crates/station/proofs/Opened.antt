@@ -7,15 +7,16 @@ use native.Mathlib.Omega.{arith}
 use lib.Dec.{ltb, lit<}
 use lib.ListN.{length}
 use Rattle.refusal.specs.declared.Refusal.the-variants.{SliceLength}
-use Rattle.batch.specs.declared.Counts.{Counts}
-use Rattle.batch.specs.declared.OpenAnswer.{OpenAnswer}
-use Rattle.batch.specs.declared.OpenAnswer.the-variants.{Opened, Refused}
+use Rattle.batch_reader.specs.declared.Counts.{Counts}
+use Rattle.batch_reader.specs.declared.OpenAnswer.{OpenAnswer}
+use Rattle.batch_reader.specs.declared.OpenAnswer.the-variants.{Opened, Refused}
 use Rattle.batch_commands.specs.Format.{ROW, OP-STACK, RAM, JUMP-STACK, INPUT, OUTPUT}
-use Rattle.batch.specs.Commands.{Command, counts}
-use Rattle.batch.specs.Reading.{Reading, read, refused, reading}
-use Rattle.batch.specs.Open.{countsIn, answerOf, openAnswer}
-use Rattle.batch.proofs.Bounds.{Bounded, bounded}
-use Rattle.station.specs.Terminals.{Within}
+use Rattle.batch_reader.specs.Commands.{Command, counts}
+use Rattle.batch_reader.specs.Reading.{Reading, read, refused, reading}
+use Rattle.batch_reader.specs.Answers.{countsIn, answerOf}
+use Rattle.batch.specs.Open.{openAnswer}
+use Rattle.batch_reader.proofs.Bounds.{Bounded, bounded}
+use Rattle.batch_cells.specs.Terminals.{Within}
 
 of-commands : (ks : List Command) → Bounded ks → Within (countsIn (counts ks)) 1248 128 128 128 64 64
 of-commands ks b =

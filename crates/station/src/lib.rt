@@ -1,19 +1,16 @@
 // The way from a batch to the last cells of its table, and to the text that the program `terminals` prints of them.
-use crate::stages::opened_cells;
-use crate::text::put_lines;
-use crate::text::put_refusal;
-use batch::OpenAnswer;
+use batch_cells::unchecked::opened_cells;
+use batch_reader::OpenAnswer;
+use cell_text::put_refusal;
+use cell_text::unchecked::put_lines;
 use refusal::Answer;
 ghost use mathlib.Core.Path.{_≡_};
 ghost use Prim.Native.Nat.{_≤_};
 ghost use lib.ListN.{length};
 ghost use lib.Seq.{sets};
 ghost use Rattle.refusal.specs.Number.{onDone};
-ghost use Rattle.station.specs.Terminals.{terminalsAnswer, terminalsCells};
+ghost use Rattle.batch_cells.specs.Terminals.{terminalsAnswer, terminalsCells};
 ghost use Rattle.station.specs.Text.{terminalsText};
-
-mod stages;
-mod text;
 
 // Opens the batch, derives the challenges, fills, pads and extends; the cells of the last row, or nothing where one of these refuses.
 pub fn last_cells(batch: &[u8], cells: &mut [u64; 33]) -> Answer

@@ -31,7 +31,7 @@ fn pad(rows: u64, table_len: u64) -> u32 {
         return NO_ANSWER;
     }
     let end = rows as usize * 39;
-    let answer = processor_table::pad(&mut table[..end], table_len as usize);
+    let answer = table_pad::pad(&mut table[..end], table_len as usize);
     refusal::answer_number(answer)
 }
 
@@ -45,13 +45,7 @@ fn fill(rows: u64, difference: u64) -> u32 {
         return NO_ANSWER;
     }
     let end = rows as usize * 39;
-    let answer = processor_table::fill(
-        &trace[..end],
-        &differences,
-        &none,
-        &none,
-        &mut table[..end],
-    );
+    let answer = table_fill::fill(&trace[..end], &differences, &none, &none, &mut table[..end]);
     refusal::answer_number(answer)
 }
 

@@ -4,9 +4,10 @@ use mathlib.Core.Path.{_≡_, refl, sym, _∙_}
 use mathlib.Core.Bool.{true}
 use lib.ListN.{length}
 use borrow.Author.Tests.{lt-ltb, le-ltb, not-true, not-false}
-use Rattle.batch.specs.declared.OpenAnswer.the-variants.{Opened}
-use Rattle.batch.specs.Reading.{read, reading, commandsOf}
-use Rattle.batch.specs.Open.{rightLengths, answerOf, openAnswer, openSlice}
+use Rattle.batch_reader.specs.declared.OpenAnswer.the-variants.{Opened}
+use Rattle.batch_reader.specs.Reading.{read, reading, commandsOf}
+use Rattle.batch_reader.specs.Answers.{answerOf}
+use Rattle.batch.specs.Open.{rightLengths, openAnswer, openSlice}
 use Rattle.batch.proofs.Room.{is-read, Room, room}
 use Rattle.batch.proofs.open.Statement.{statement}
 use Rattle.batch.proofs.open.Tie as tie

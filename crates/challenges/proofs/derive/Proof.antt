@@ -4,7 +4,7 @@ use mathlib.Core.Path.{ap, _∙_}
 use Rattle.base_field.specs.Words.{allBelow}
 use Rattle.air.specs.ChallengeId.{LOOKUP-TABLE-PUBLIC-INDETERMINATE}
 use Rattle.challenges.specs.Derived.{terminal, derivedRecord}
-use Rattle.challenges.proofs.Table.{table-below}
+use Rattle.tip5.proofs.Table.{table-below}
 use Rattle.challenges.proofs.derive.Statement.{statement}
 use Rattle.challenges.proofs.derive.Tie as tie
 

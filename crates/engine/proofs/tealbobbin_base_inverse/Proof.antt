@@ -1,7 +1,7 @@
 -- What `put_base` does with the answer.
 use borrow.Author.Needs.{needs}
 use mathlib.Core.Path.{ap, _∙_}
-use Rattle.engine.specs.Field.{baseNumberInto, baseInto}
+use Rattle.abi_answers.specs.Field.{baseNumberInto, baseInto}
 use Rattle.engine.proofs.tealbobbin_base_inverse.Statement.{statement}
 use Rattle.engine.proofs.tealbobbin_base_inverse.Tie as tie
 

@@ -1,7 +1,7 @@
 -- What `put_decoded` does with the answer.
 use borrow.Author.Needs.{needs}
 use mathlib.Core.Path.{ap, _∙_}
-use Rattle.engine.specs.Decode.{decodeNumberInto, decodeInto}
+use Rattle.abi_answers.specs.Decode.{decodeNumberInto, decodeInto}
 use Rattle.engine.proofs.tealbobbin_decode.Statement.{statement}
 use Rattle.engine.proofs.tealbobbin_decode.Tie as tie
 

@@ -3,7 +3,7 @@ use borrow.Author.Needs.{needs}
 use borrow.Author.Tests.{eq-eqb, ne-eqb}
 use mathlib.Core.Path.{ap, ap₂, _∙_}
 use Rattle.field.specs.Answers.{elementAdd}
-use Rattle.engine.specs.Field.{elementNumberInto, elementInto}
+use Rattle.abi_answers.specs.Field.{elementNumberInto, elementInto}
 use Rattle.engine.proofs.tealbobbin_element_add.Statement.{statement}
 use Rattle.engine.proofs.tealbobbin_element_add.Tie as tie
 

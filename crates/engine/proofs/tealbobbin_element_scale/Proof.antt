@@ -3,7 +3,7 @@ use borrow.Author.Needs.{needs}
 use borrow.Author.Tests.{eq-eqb, ne-eqb}
 use mathlib.Core.Path.{ap, _∙_}
 use Rattle.field.specs.Answers.{elementScale}
-use Rattle.engine.specs.Field.{elementNumberInto, elementInto}
+use Rattle.abi_answers.specs.Field.{elementNumberInto, elementInto}
 use Rattle.engine.proofs.tealbobbin_element_scale.Statement.{statement}
 use Rattle.engine.proofs.tealbobbin_element_scale.Tie as tie
 

@@ -5,7 +5,7 @@ use Prim.Native.Nat.{ℕ}
 use lib.ListN.{length}
 use borrow.Author.Tests.{eq-eqb, ne-eqb}
 use Rattle.batch.specs.Open.{openAnswer, openNumber, openSlice}
-use Rattle.engine.specs.Open.{openInto, countsInto}
+use Rattle.abi_answers.specs.Open.{openInto, countsInto}
 use borrow.Author.Needs.{needs}
 use Rattle.engine.proofs.tealbobbin_open.Statement.{statement}
 use Rattle.engine.proofs.tealbobbin_open.Tie as tie

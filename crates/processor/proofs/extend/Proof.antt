@@ -8,8 +8,10 @@ use Rattle.refusal.specs.declared.Answer.the-variants.{Done}
 use Rattle.processor_table.specs.Rows.{rows}
 use Rattle.processor_table.proofs.Rows.{length-rows}
 use Rattle.denominators.specs.Items.{denominatorOf, inverseItem}
-use Rattle.processor.specs.Extend.{extendAnswer, extendAux, extendWork}
-use Rattle.processor.proofs.Accepted.{Accepted, passed, ready, written, cleared}
+use Rattle.extension_answer.specs.Answer.{extendAnswer}
+use Rattle.processor.specs.Extend.{extendAux, extendWork}
+use Rattle.extension_answer.proofs.Accepted.{Accepted, passed, ready}
+use Rattle.processor.proofs.Written.{written, cleared}
 use Rattle.processor.proofs.extend.Statement.{statement}
 use Rattle.processor.proofs.extend.Tie as tie
 

@@ -6,7 +6,7 @@ use native.Mathlib.Omega.{arith}
 use Rattle.refusal.specs.Number.{onDone}
 use Rattle.batch_commands.specs.Format.{ROW, OP-STACK, RAM, JUMP-STACK, SAMPLED, DIGEST, INPUT, OUTPUT}
 use Rattle.batch.specs.Open.{openSlice}
-use Rattle.station.specs.Terminals.{zeros, openedAnswer, openedCells, answerAfter, cellsAfter, terminalsAnswer, terminalsCells}
+use Rattle.batch_cells.specs.Terminals.{zeros, openedAnswer, openedCells, answerAfter, cellsAfter, terminalsAnswer, terminalsCells}
 use Rattle.station.proofs.Opened.{within-opened}
 use borrow.Author.Needs.{needs}
 use Rattle.station.proofs.last_cells.Statement.{statement}

@@ -4,8 +4,9 @@ use native.Mathlib.Omega.{arith}
 use lib.ListN.{length}
 use lib.Seq.{sets}
 use Rattle.refusal.specs.Number.{onDone}
-use Rattle.station.specs.Terminals.{terminalsCells}
-use Rattle.station.specs.Text.{lines, textOf, terminalsText}
+use Rattle.batch_cells.specs.Terminals.{terminalsCells}
+use Rattle.cell_text.specs.Text.{lines, textOf}
+use Rattle.station.specs.Text.{terminalsText}
 use borrow.Author.Needs.{needs}
 use Rattle.station.proofs.report.Statement.{statement}
 use Rattle.station.proofs.report.Tie as tie

@@ -6,7 +6,7 @@ use native.Mathlib.Omega.{arith}
 use lib.ListN.{length, drop, length-drop}
 use borrow.Author.Tests.{not-true, not-false}
 use Rattle.base_field.specs.Words.{allBelow}
-use Rattle.batch_commands.specs.Words.{words}
+use Rattle.batch_words.specs.Words.{words}
 use Rattle.batch_commands.specs.Format.{width}
 use Rattle.batch_commands.specs.Fault.{outOfPlace, judged}
 use Rattle.batch_commands.proofs.unchecked.judge.Statement.{statement}

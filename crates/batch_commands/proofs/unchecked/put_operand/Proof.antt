@@ -9,7 +9,7 @@ use lib.ListN.{length, drop}
 use lib.Seq.{paste-zero}
 use borrow.Author.Tests.{eq-eqb, ne-eqb}
 use Rattle.batch_commands.specs.Format.{width, wordsFor}
-use Rattle.batch_commands.proofs.Bytes.{length-words}
+use Rattle.batch_words.proofs.Bytes.{length-words}
 use Rattle.batch_commands.proofs.unchecked.put_operand.Statement.{statement}
 use Rattle.batch_commands.proofs.unchecked.put_operand.Tie as tie
 

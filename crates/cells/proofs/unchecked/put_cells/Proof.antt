@@ -7,7 +7,7 @@ use lib.ListN.{length, set}
 use lib.Seq.{sets}
 use Rattle.field.specs.Element.{wordsOf}
 use Rattle.field.specs.declared.XFieldElement.{XFieldElement}
-use Rattle.denominators.proofs.Windows.{put-row}
+use Rattle.processor_table.proofs.Rows.{put-row}
 use Rattle.cells.specs.Cells.{wordsOfCells}
 use borrow.Author.Needs.{needs}
 use Rattle.cells.proofs.unchecked.put_cells.Statement.{statement}

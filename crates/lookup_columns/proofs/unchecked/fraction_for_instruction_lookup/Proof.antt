@@ -39,8 +39,8 @@ slice-aggregate-cell-4 c = search needs
 cell-requires-4 : tie.Need-cell-requires-4
 cell-requires-4 c κs = search needs
 
-compress-three-requires : tie.Need-compress-three-requires
-compress-three-requires c κs = search needs
+compress3-requires : tie.Need-compress3-requires
+compress3-requires c κs = search needs
 
 fraction-requires : tie.Need-fraction-requires
 fraction-requires c κs = search needs
@@ -65,6 +65,6 @@ fraction-for-instruction-lookup-spec =
     cell-requires-3
     slice-aggregate-cell-4
     cell-requires-4
-    compress-three-requires
+    compress3-requires
     fraction-requires
     returns-2)

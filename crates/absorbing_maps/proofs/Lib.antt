@@ -1,0 +1,2 @@
+-- Laws of the words that the maps absorb.
+pub mod Words

@@ -1,0 +1,2 @@
+-- The auxiliary table.
+pub mod Extended

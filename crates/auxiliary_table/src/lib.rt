@@ -1,0 +1,2 @@
+// The auxiliary table of the processor: eleven columns of three words, row by row.
+pub mod unchecked;

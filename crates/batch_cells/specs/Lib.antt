@@ -1,0 +1,2 @@
+-- The last row's cells of a batch.
+pub mod Terminals

@@ -1,0 +1,113 @@
+-- How many commands of a kind a batch holds, and so how many words they bring.
+use mathlib.Core.Path.{_≡_, refl, sym, _∙_}
+use mathlib.Core.Bool.{Bool, true, false, cond, _&&_}
+use mathlib.Core.List.{List, [], _∷_, _++_}
+use Prim.Native.Nat.{ℕ, zero, suc, _+_, _≤_, _<_}
+use native.Mathlib.Omega.{arith}
+use lib.Dec.{eqb, leb}
+use lib.ListN.{take, getD}
+use borrow.Author.Tests.{eqb-true, eq-eqb, ne-eqb, leb-true, not-false}
+use Rattle.base_field.proofs.Below.{and-true}
+use Rattle.refusal.specs.declared.Answer.the-variants.{Done}
+use Rattle.batch_words.specs.Words.{number}
+use Rattle.batch_commands.specs.Format.{TRACE-ROWS, width}
+use Rattle.batch_commands.specs.Fault.{limit, wrongRowCount, fault}
+use Rattle.batch_reader.specs.Commands.{Command, count, counts, announced}
+use Rattle.batch_reader.specs.Reading.{read, reading}
+use Rattle.batch_reader.proofs.Commands.{count-one, count-at}
+use Rattle.batch_reader.proofs.Faults.{Placed, placed}
+use Rattle.batch_reader.proofs.Readings.{at-start, kept}
+
+-- 01 stands first
+abbrev First : List Command → Type 0
+First [] = Unit
+First (k ∷ ks) = k .code ≡ TRACE-ROWS
+
+pub record Bounded (ks : List Command) : Type 0 where
+  first : First ks
+  pub few-rows : announced ks ≤ 32
+  pub within : (code : ℕ) → code < 10 → count code ks ≤ limit (announced ks) code
+
+pub none-bounded : Bounded []
+unfolding count
+none-bounded = record { first = tt; few-rows = omega arith; within = λ code l. omega arith }
+
+one-more : (n most : ℕ) (same : Bool) → n ≤ most → (same ≡ true → n < most) → n + cond same 1 0 ≤ most
+one-more n most true h g = let u = g refl in omega arith
+one-more n most false h g = omega arith
+
+alone : (most : ℕ) (same : Bool) → (same ≡ true → 0 < most) → cond same 1 0 + 0 ≤ most
+alone most true g = let u = g refl in omega arith
+alone most false g = omega arith
+
+module _ (code : ℕ) (bytes : List ℕ) where
+  abbrev next : Command
+  next = record { code = code; operand = take (width code) bytes }
+
+  first-is : Placed 0 (counts []) code bytes → code ≡ TRACE-ROWS
+  unfolding count
+  first-is p = eqb-true code TRACE-ROWS (not-false (eqb code TRACE-ROWS) (p .after-first))
+
+  -- 01 comes once
+  later-is-not : (k : Command) (ks : List Command) → Bounded (k ∷ ks) → Placed (announced (k ∷ ks)) (counts (k ∷ ks)) code bytes → code ≡ TRACE-ROWS → ⊥
+  unfolding count
+  later-is-not k ks b p e =
+      let u : cond (eqb (k .code) TRACE-ROWS) 1 0 + count TRACE-ROWS ks < 1 = rw e at (p .under) in
+      let v : 1 + count TRACE-ROWS ks < 1 = rw (eq-eqb (k .code) TRACE-ROWS (b .first)) at u in
+      omega arith
+
+  pub announced-next : (before : List Command) → Bounded before → Placed (announced before) (counts before) code bytes → announced (before ++ (next ∷ [])) ≡ cond (eqb code TRACE-ROWS) (number (take (width code) bytes)) (announced before)
+  announced-next [] b p = rw (eq-eqb code TRACE-ROWS (first-is p))
+  announced-next (k ∷ ks) b p = rw (ne-eqb code TRACE-ROWS (later-is-not k ks b p))
+
+  few : code ≡ TRACE-ROWS → wrongRowCount code (take (width code) bytes) ≡ false → number (take (width code) bytes) ≤ 32
+  few e w =
+      let n = number (take 4 bytes) in
+      let v = and-true (leb 1 n) (leb n 32) (not-false (leb 1 n && leb n 32) (rw e at w)) in
+      rw e (leb-true n 32 (v .1))
+
+  bounded-first : fault 0 (counts []) code bytes ≡ Done → Bounded (next ∷ [])
+  unfolding count
+  bounded-first d =
+      let p = placed 0 (counts []) code bytes d in
+      let e = first-is p in
+      record {
+        first = e;
+        few-rows = few e (p .row-count);
+        within = λ c l. alone (limit (number (take (width code) bytes)) c) (eqb code c) (λ q. let z : c ≡ TRACE-ROWS = sym (eqb-true code c q) ∙ e in rw z (omega arith));
+      }
+
+  under-at : (before : List Command) (c : ℕ) → Placed (announced before) (counts before) code bytes → code ≡ c → count c before < limit (announced before) c
+  under-at before c p e = rw (sym e) (rw (count-at before code (p .known)) at (p .under))
+
+  pub bounded-next : (before : List Command) → fault (announced before) (counts before) code bytes ≡ Done → Bounded before → Bounded (before ++ (next ∷ []))
+  bounded-next [] d b = bounded-first d
+  bounded-next (k ∷ ks) d b =
+      let p = placed (announced (k ∷ ks)) (counts (k ∷ ks)) code bytes d in
+      record {
+        first = b .first;
+        few-rows = b .few-rows;
+        within = λ c l.
+            let e : count c (k ∷ (ks ++ (next ∷ []))) ≡ count c (k ∷ ks) + cond (eqb code c) 1 0 = count-one c (k ∷ ks) next in
+            rw e (one-more (count c (k ∷ ks)) (limit (announced (k ∷ ks)) c) (eqb code c) (b .within c l) (λ q. under-at (k ∷ ks) c p (eqb-true code c q)));
+      }
+
+pub bounded : (batch : List ℕ) (ks : List Command) → reading batch ≡ read ks → Bounded ks
+bounded batch ks e = let a = at-start batch in kept Bounded (λ before code bytes. bounded-next code bytes before) (a .fuel) [] batch ks none-bounded (sym (a .rest) ∙ e)
+
+-- each number of a list is at most `most`
+abbrev AllAtMost : ℕ → List ℕ → Type 0
+AllAtMost most [] = Unit
+AllAtMost most (n ∷ ns) = (n ≤ most) × AllAtMost most ns
+
+one-at-most : (most : ℕ) (ns : List ℕ) (i : ℕ) → AllAtMost most ns → getD ns i 0 ≤ most
+one-at-most most [] i h = omega arith
+one-at-most most (n ∷ ns) zero h = h .0
+one-at-most most (n ∷ ns) (suc i) h = one-at-most most ns i (h .1)
+
+pub count-small : (ks : List Command) → Bounded ks → (code : ℕ) → code < 10 → count code ks ≤ 128
+count-small ks b code l =
+    let few = b .few-rows in
+    let n = one-at-most 128 (1 ∷ 1 ∷ announced ks ∷ 128 ∷ 128 ∷ 128 ∷ 1 ∷ 1 ∷ 64 ∷ 64 ∷ []) code
+    (omega arith, (omega arith, (omega arith, (omega arith, (omega arith, (omega arith, (omega arith, (omega arith, (omega arith, (omega arith, tt)))))))))) in
+    omega (arith, n, b .within code l)

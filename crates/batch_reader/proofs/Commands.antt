@@ -1,0 +1,80 @@
+-- Counts and contents of commands that stand one after the other.
+use mathlib.Core.Path.{_≡_, refl, sym, ap, _∙_}
+use mathlib.Core.Bool.{Bool, true, false, cond}
+use mathlib.Core.List.{List, [], _∷_, _++_, append-assoc, append-nil, map}
+use Prim.Native.Nat.{ℕ, zero, suc, _+_, _*_, _/_, _≤_, _<_}
+use native.Mathlib.Nat.{add-assoc, add-zero, zero-add, add-mul, not-suc-le-zero}
+use native.Mathlib.Omega.{arith}
+use lib.Dec.{eqb}
+use lib.ListN.{length, take, getD, set, length-append}
+use borrow.Author.Tests.{eqb-true, eq-eqb, ne-eqb}
+use Rattle.batch_commands.specs.Format.{width, wordsIn, wordsFor}
+use Rattle.batch_reader.specs.Commands.{Command, count, counts, contents}
+use Rattle.batch_words.proofs.Bytes.{length-words, words-within}
+
+pub count-append : (code : ℕ) (ks js : List Command) → count code (ks ++ js) ≡ count code ks + count code js
+unfolding count
+count-append code [] js = sym (zero-add (count code js))
+count-append code (k ∷ ks) js = rw (count-append code ks js, add-assoc (cond (eqb (k .code) code) 1 0) (count code ks) (count code js))
+
+pub count-one : (code : ℕ) (ks : List Command) (k : Command) → count code (ks ++ (k ∷ [])) ≡ count code ks + cond (eqb (k .code) code) 1 0
+unfolding count
+count-one code ks k = count-append code ks (k ∷ []) ∙ rw add-zero
+
+pub contents-append : (wanted : ℕ) (ks js : List Command) → contents wanted (ks ++ js) ≡ contents wanted ks ++ contents wanted js
+unfolding contents
+contents-append wanted [] js = refl
+contents-append wanted (k ∷ ks) js = rw (contents-append wanted ks js, append-assoc)
+
+-- the words of each command of the wanted kind
+length-for : (wanted code : ℕ) (operand : List ℕ) (same : Bool) → eqb code wanted ≡ same → length (cond same (wordsIn code operand) []) ≡ cond same 1 0 * (width wanted / 8)
+length-for wanted code operand true e = rw (length-words, eqb-true code wanted e) (omega arith)
+length-for wanted code operand false e = omega arith
+
+pub length-contents : (wanted : ℕ) (ks : List Command) → length (contents wanted ks) ≡ count wanted ks * (width wanted / 8)
+unfolding contents count
+length-contents wanted [] = omega arith
+length-contents wanted (k ∷ ks) =
+    length-append (wordsFor wanted (k .code) (k .operand)) (contents wanted ks)
+    ∙ rw (length-for wanted (k .code) (k .operand) (eqb (k .code) wanted) refl, length-contents wanted ks, add-mul)
+
+-- n numbers from a on
+abbrev from : ℕ → ℕ → List ℕ
+from a zero = []
+from a (suc n) = a ∷ from (suc a) n
+
+module _ (f g : ℕ → ℕ) where
+  map-past : (a n : ℕ) → ((c : ℕ) → a ≤ c → g c ≡ f c) → map g (from a n) ≡ map f (from a n)
+  map-past a zero h = refl
+  map-past a (suc n) h = rw (h a (omega arith), map-past (suc a) n (λ c l. h c (omega arith)))
+
+  -- two maps that differ at a + i alone
+  map-but-one : (a n i : ℕ) → i < n → ((c : ℕ) → (a + i ≡ c → ⊥) → g c ≡ f c) → map g (from a n) ≡ set (map f (from a n)) i (g (a + i))
+  map-but-one a zero i l h = absurd (not-suc-le-zero l)
+  map-but-one a (suc n) zero l h = rw (add-zero, map-past (suc a) n (λ c m. h c (λ e. omega arith)))
+  map-but-one a (suc n) (suc i) l h =
+      let e : a + suc i ≡ suc a + i = omega arith in
+      rw (h a (λ e. omega arith), e, map-but-one (suc a) n i (omega arith) (λ c m. h c (λ q. m (omega arith))))
+
+pub counts-one : (ks : List Command) (k : Command) → k .code < 10 → counts (ks ++ (k ∷ [])) ≡ set (counts ks) (k .code) (count (k .code) ks + 1)
+counts-one ks k l =
+    map-but-one (λ c. count c ks) (λ c. count c (ks ++ (k ∷ []))) 0 10 (k .code) l (λ c h. count-one c ks k ∙ rw (ne-eqb (k .code) c (λ e. h (zero-add (k .code) ∙ e)), add-zero))
+    ∙ rw (zero-add, count-one (k .code) ks k, eq-eqb (k .code) (k .code) refl)
+
+map-at : (f : ℕ → ℕ) (a n i : ℕ) → i < n → getD (map f (from a n)) i 0 ≡ f (a + i)
+map-at f a zero i l = absurd (not-suc-le-zero l)
+map-at f a (suc n) zero l = ap f (sym (add-zero a))
+map-at f a (suc n) (suc i) l =
+    let e : suc a + i ≡ a + suc i = omega arith in
+    map-at f (suc a) n i (omega arith) ∙ ap f e
+
+pub count-at : (ks : List Command) (code : ℕ) → code < 10 → getD (counts ks) code 0 ≡ count code ks
+count-at ks code l = map-at (λ c. count c ks) 0 10 code l ∙ rw zero-add
+
+-- the next command's words come behind those before
+pub contents-one : (wanted : ℕ) (ks : List Command) (code : ℕ) (bytes : List ℕ)
+    → contents wanted (ks ++ (record { code = code; operand = take (width code) bytes } ∷ [])) ≡ contents wanted ks ++ wordsFor wanted code bytes
+unfolding contents
+contents-one wanted ks code bytes =
+    contents-append wanted ks (record { code = code; operand = take (width code) bytes } ∷ [])
+    ∙ rw (append-nil (wordsFor wanted code (take (width code) bytes)), words-within (width code / 8) (width code) bytes (omega arith))

@@ -1,0 +1,2 @@
+-- Laws on bytes.
+pub mod Bytes

@@ -1,0 +1,90 @@
+-- The first i words are in the slice, which is as it was elsewhere.
+use borrow.Author.Needs.{needs}
+use mathlib.Core.Path.{_≡_, sym, ap, _∙_}
+use Prim.Native.Nat.{_+_, _-_, _<_, _≤_}
+use native.Mathlib.Numerals.{add-one}
+use native.Mathlib.Omega.{arith}
+use lib.ListN.{length, drop, getD, set, length-set}
+use lib.Seq.{take-all, paste, paste-zero, paste-suc}
+use Rattle.batch_words.specs.Words.{words}
+use Rattle.batch_words.proofs.Bytes.{length-words, within-words, word-of}
+use Rattle.batch_words.proofs.unchecked.put_words.Statement.{statement}
+use Rattle.batch_words.proofs.unchecked.put_words.Tie as tie
+
+abbrev Inv-loop : tie.InvT-loop
+Inv-loop batch at n slice₀ to i₀ slice i = (i ≤ n) × (length slice ≡ length slice₀) × (slice ≡ paste slice₀ to (words n (drop at batch)) i)
+
+abbrev μ-loop : tie.MeasureT-loop
+μ-loop batch at n slice₀ to i₀ slice i = n - i
+
+loop-holds : tie.Need-loop-holds Inv-loop μ-loop
+loop-holds c = let args = c .before .before .args in (search needs, search needs, paste-zero (args .slice .now) (args .to) (words (args .n) (drop (args .at) (args .batch .now))))
+
+mul-word-at : tie.Need-mul-word-at Inv-loop μ-loop
+mul-word-at c = search needs
+
+add-word-at : tie.Need-add-word-at Inv-loop μ-loop
+add-word-at c = search needs
+
+word-at-requires : tie.Need-word-at-requires Inv-loop μ-loop
+word-at-requires c κs = search needs
+
+add-slice : tie.Need-add-slice Inv-loop μ-loop
+add-slice c = search needs
+
+mul-slice : tie.Need-mul-slice Inv-loop μ-loop
+mul-slice c = search needs
+
+slice-write-slice : tie.Need-slice-write-slice Inv-loop μ-loop
+slice-write-slice c = search needs
+
+add-i : tie.Need-add-i Inv-loop μ-loop
+add-i c = search needs
+
+loop-less : tie.Need-loop-less Inv-loop μ-loop
+loop-less c = search needs
+
+loop-again : tie.Need-loop-again Inv-loop μ-loop
+loop-again c =
+    let at-loop = c .before .before in
+    let args = at-loop .before .before .before .args in
+    let i = at-loop .loop .i in
+    let ws = words (args .n) (drop (args .at) (args .batch .now)) in
+    let taken = c .before .loop-test .taken in
+    let e : c .word-at .result ≡ getD ws i 0 = c .word-at .ensures ∙ sym (word-of (args .batch .now) (args .at) (args .n) i taken) in
+    let room : args .to + i < length (args .slice .now) = omega arith in (
+      search needs,
+      simp length-set (omega arith),
+      ap (λ l. set l (args .to + i) (c .word-at .result)) (at-loop .loop .inv .2) ∙ ap (set (paste (args .slice .now) (args .to) ws i) (args .to + i)) e
+          ∙ paste-suc (args .slice .now) (args .to) ws i 0 room (within-words (args .n) _ i taken) ∙ ap (paste (args .slice .now) (args .to) ws) (sym (add-one i)),
+    )
+
+same-length : tie.Need-same-length Inv-loop μ-loop
+same-length c = search needs
+
+returns : tie.Need-returns Inv-loop μ-loop
+returns c =
+    let at-loop = c .before in
+    let args = at-loop .before .before .before .args in
+    let ws = words (args .n) (drop (args .at) (args .batch .now)) in
+    let all : at-loop .loop .i ≡ args .n = omega arith in
+    at-loop .loop .inv .2 ∙ rw (all, take-all (args .n) ws (omega (arith, length-words (args .n) (drop (args .at) (args .batch .now)))))
+
+pub put-words-spec : {M : Type 1} → statement M
+put-words-spec =
+    tie.close
+    (tie.spec
+    Inv-loop
+    μ-loop
+    loop-holds
+    mul-word-at
+    add-word-at
+    word-at-requires
+    add-slice
+    mul-slice
+    slice-write-slice
+    add-i
+    loop-less
+    loop-again
+    same-length
+    returns)

@@ -1,0 +1,2 @@
+-- What bytes say.
+pub mod Words

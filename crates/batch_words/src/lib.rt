@@ -1,0 +1,2 @@
+// Numbers and words of a batch, little-endian.
+pub mod unchecked;

@@ -1,0 +1,2 @@
+-- The text of an answer and its cells.
+pub mod Text

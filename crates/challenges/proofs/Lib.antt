@@ -1,3 +1,0 @@
--- Laws on the symbols of an argument and on the table.
-pub mod Symbols
-pub mod Table

@@ -1,0 +1,2 @@
+-- Laws on the symbols of an argument.
+pub mod Symbols

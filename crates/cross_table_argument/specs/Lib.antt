@@ -1,0 +1,2 @@
+-- The arguments between tables.
+pub mod CrossTable

@@ -1,0 +1,2 @@
+-- What extension answers.
+pub mod Answer

@@ -1,0 +1,2 @@
+-- Laws of the words that an instruction moves.
+pub mod Moved

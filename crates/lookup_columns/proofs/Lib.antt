@@ -1,4 +1,0 @@
--- Laws of the fractions.
-pub mod Single
-pub mod Weigh
-pub mod U32

@@ -1,0 +1,2 @@
+// A row's fractions brought to one denominator.
+pub mod unchecked;

@@ -1,0 +1,3 @@
+-- Laws of accesses.
+pub mod Run
+pub mod Accesses

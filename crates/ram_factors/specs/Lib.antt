@@ -1,0 +1,2 @@
+-- What the functions over accesses are stated with.
+pub mod Access

@@ -1,0 +1,2 @@
+-- Laws of words under weights.
+pub mod Weigh

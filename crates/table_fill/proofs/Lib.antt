@@ -1,0 +1,4 @@
+-- Laws that more than one proof cites.
+pub mod Differences
+pub mod Accepted
+pub mod Filled

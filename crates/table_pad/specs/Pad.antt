@@ -1,0 +1,46 @@
+-- Pad: the last row of the trace copied downward, and row 1's multiplicity grown by the number of padding rows.
+use mathlib.Core.Bool.{cond, not, _||_}
+use mathlib.Core.List.{List}
+use Prim.Native.Nat.{ℕ, _+_, _-_, _*_}
+use lib.Dec.{eqb, ltb}
+use lib.ListN.{take, getD, set}
+use Rattle.algebra.specs.Modulus.{plus}
+use Rattle.base_field.specs.Words.{allBelow}
+use Rattle.refusal.specs.Number.{onDone}
+use Rattle.refusal.specs.Long.{isLong}
+use Rattle.refusal.specs.declared.Answer.{Answer}
+use Rattle.refusal.specs.declared.Answer.the-variants.{Done, Refused}
+use Rattle.refusal.specs.declared.Refusal.the-variants.{SliceLength, RowCount, WordNotBelowP}
+use Rattle.air.specs.MainColumn.{CLK, IS-PADDING, CLOCK-JUMP-DIFFERENCE-LOOKUP-MULTIPLICITY}
+use Rattle.processor_table.specs.Rows.{wholeRows, rows, rowAt, rowsFrom}
+
+-- "1 unless the table is whole rows; 3 if rows are under 2 or long, or table_len is 0 or above rows; 2 in the first table_len rows."
+unfoldable pub padAnswer : List ℕ → ℕ → Answer
+padAnswer table len =
+    cond (not (wholeRows table)) (Refused SliceLength)
+    (cond (ltb (rows table) 2 || isLong (rows table) || eqb len 0 || ltb (rows table) len) (Refused RowCount)
+    (cond (not (allBelow (take (len * 39) table))) (Refused WordNotBelowP)
+    Done))
+
+-- a row like `last` with IsPadding 1, multiplicity 0 and CLK c
+abbrev pub paddingRow : List ℕ → ℕ → List ℕ
+paddingRow last c = set (set (set last IS-PADDING 1) CLOCK-JUMP-DIFFERENCE-LOOKUP-MULTIPLICITY 0) CLK c
+
+-- row c of the padded table
+abbrev pub paddedRow : List ℕ → ℕ → ℕ → List ℕ
+paddedRow table len c = cond (ltb c len) (rowAt table c) (paddingRow (rowAt table (len - 1)) c)
+
+-- row 1's multiplicity grows by n, modulo p
+abbrev pub grown : List ℕ → ℕ → List ℕ
+grown table n =
+    let at = 39 + CLOCK-JUMP-DIFFERENCE-LOOKUP-MULTIPLICITY in
+    set table at (plus (getD table at 0) n)
+
+unfoldable pub padded : List ℕ → ℕ → List ℕ
+unfolding rowsFrom
+padded table len = grown (rowsFrom (paddedRow table len) 0 (rows table)) (rows table - len)
+
+-- what the table holds then
+unfoldable pub padTable : List ℕ → ℕ → List ℕ
+unfolding padAnswer padded
+padTable table len = onDone (padAnswer table len) (padded table len) table

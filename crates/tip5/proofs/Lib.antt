@@ -1,0 +1,2 @@
+-- Laws on the table.
+pub mod Table

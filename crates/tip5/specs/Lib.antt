@@ -1,0 +1,2 @@
+-- The table of tip5's S-box.
+pub mod LookupTable
