@@ -9,11 +9,11 @@ use Rattle.tip5.specs.LookupTable.{lookupTable}
 use Rattle.cross_table_argument.specs.CrossTable.{evaluation, runningProduct, runningSum}
 use Rattle.processor_entries.specs.Row.{weigh}
 use Rattle.processor_entries.specs.Entries.{inputEntries, outputEntries, instructionEntries, opStackEntries, ramEntries, ramAccesses, accessesFrom, jumpStackEntries, hashInputEntries, hashDigestEntries, spongeEntries, u32Lookups, u32Entries, clockEntries}
-use Rattle.processor_entries.specs.Columns.{rowEntries, entries, cell}
+use Rattle.processor_entries.specs.Columns.{rowEntries, entries, running}
 use Rattle.cases.specs.Cases.{Cases}
 
 pub cases : Cases
-unfolding sum difference product scale inverse plain.sum plain.difference plain.product plain.scale plain.cofactor plain.norm plain.inverse base.inverse power decoded lookupTable evaluation runningProduct runningSum weigh inputEntries outputEntries instructionEntries opStackEntries ramEntries ramAccesses accessesFrom jumpStackEntries hashInputEntries hashDigestEntries spongeEntries u32Lookups u32Entries clockEntries rowEntries entries cell
+unfolding sum difference product scale inverse plain.sum plain.difference plain.product plain.scale plain.cofactor plain.norm plain.inverse base.inverse power decoded lookupTable evaluation runningProduct runningSum weigh inputEntries outputEntries instructionEntries opStackEntries ramEntries ramAccesses accessesFrom jumpStackEntries hashInputEntries hashDigestEntries spongeEntries u32Lookups u32Entries clockEntries rowEntries entries running
 cases =
     record {
       x-times-x² = refl;

@@ -3,3 +3,4 @@ pub mod Weigh
 pub mod Absorbing
 pub mod Products
 pub mod Fractions
+pub mod AuxRow

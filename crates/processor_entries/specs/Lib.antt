@@ -3,4 +3,5 @@ pub mod Row
 pub mod Entries
 pub mod Contribution
 pub mod Columns
+pub mod AuxRow
 pub mod Denominators

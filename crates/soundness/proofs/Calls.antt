@@ -10,7 +10,8 @@ use Rattle.processor_table.specs.Rows.{rows}
 use Rattle.processor_entries.specs.Columns.{Column}
 use Rattle.extension_answer.specs.Answer.{extendAnswer}
 use Rattle.processor.specs.Extend.{extendAux}
-use Rattle.soundness.specs.Term3.{placeOf, Ends}
+use Rattle.processor_entries.specs.AuxRow.{placeOf}
+use Rattle.soundness.specs.Term3.{Ends}
 use Rattle.soundness.specs.Calls.{Call, Term3OfCalls}
 use Rattle.soundness.proofs.Lists.{All-imply}
 use Rattle.soundness.proofs.Term3.{term3}

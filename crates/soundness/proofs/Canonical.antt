@@ -22,7 +22,7 @@ use Rattle.processor_table.specs.Rows.{rowAt}
 use Rattle.processor_entries.proofs.Weigh.{weigh-canonical}
 use Rattle.processor_entries.specs.Row.{cell, cells, isPadding, instructionOf, weigh}
 use Rattle.processor_entries.specs.Entries.{one-over, ifRead, ifOpcode, inputEntries, outputEntries, instructionEntries, shorter, change, opStackEntry, opStackEntries, ramEntry, ramAccesses, ramEntries, jumpStackEntries, merkles, merkleInput, hashInputEntries, hashDigestEntries, spongeEntries, u32Lookups, u32Entries, clockEntries}
-use Rattle.processor_entries.specs.Columns.{Column, input, output, instruction, opStack, ram, jumpStack, hashInput, hashDigest, sponge, u32, clock, Kind, evaluation, product, lookup, kindOf, Entry, ofWindow, rowEntries, entries}
+use Rattle.processor_entries.specs.Columns.{Column, input, output, instruction, opStack, ram, jumpStack, hashInput, hashDigest, sponge, u32, clock, Kind, evaluation, product, lookup, kindOf, Entry, ofWindows, broughtBy, rowEntries, entries}
 use Rattle.soundness.proofs.Lists.{All-map, All-append, All-take, All-drop, All-reverse, All-cond, All-image}
 
 abbrev pub Words : List ℕ → Type 0
@@ -59,7 +59,7 @@ module _ {A : Type 0} (Q : A → Type 0) where
   if-opcode opcode i brings h = All-cond Q (eqb (opcodeOf i) opcode) (brings (argumentOf i)) [] (h (argumentOf i)) tt
 
   window : (of : List ℕ → List ℕ → List A) → ((prev curr : List ℕ) → Words prev → Words curr → All Q (of prev curr))
-      → (table : List ℕ) → Words table → (r : ℕ) → All Q (ofWindow of table r)
+      → (table : List ℕ) → Words table → (r : ℕ) → All Q (broughtBy (ofWindows of) table r)
   window of h table below zero = tt
   window of h table below (suc r) = h (rowAt table r) (rowAt table (suc r)) (row-below table below r) (row-below table below (suc r))
 

@@ -16,8 +16,9 @@ use Rattle.air.specs.ChallengeId.{SAMPLE-COUNT}
 use Rattle.challenges.specs.Derived.{challengeAt}
 use Rattle.cross_table_argument.specs.CrossTable.{evaluationArgument, permutationArgument}
 use Rattle.processor_table.specs.Rows.{rows}
-use Rattle.processor_entries.specs.Columns.{Column, Kind, evaluation, product, lookup, kindOf, Entry, indeterminateOf, weightsOf, weights, entries, argument, cell}
-use Rattle.soundness.specs.Term3.{placeOf, put, entriesOf, Ends, Differ, bound, Term3}
+use Rattle.processor_entries.specs.Columns.{Column, Kind, evaluation, product, lookup, kindOf, Entry, indeterminateOf, weightsOf, weights, entries, argument, running, cell}
+use Rattle.processor_entries.specs.AuxRow.{placeOf}
+use Rattle.soundness.specs.Term3.{put, entriesOf, Ends, Differ, bound, Term3}
 use Rattle.soundness.proofs.Lists.{All-imply, All-both, map-same}
 use Rattle.soundness.proofs.Columns.{all-sampled}
 use Rattle.soundness.proofs.Counting.{evaluation-bound, product-bound, lookup-bound}
@@ -61,7 +62,7 @@ module _ (c : Column) (sampled : ℕ → XFieldElement) (x : XFieldElement) (mai
 
   -- the column's argument over all entries
   last-cell : cell c (ends .challenges) main (rows main - 1) ≡ argument (kindOf c) x (entriesOf c sampled main)
-  unfolding cell
+  unfolding running
   last-cell =
       ap (λ y. argument (kindOf c) y (entries c (weights c (ends .challenges)) main (suc (rows main - 1)))) own
       ∙ ap (λ ws. argument (kindOf c) x (entries c ws main (suc (rows main - 1)))) same-weights

@@ -16,10 +16,11 @@ use Rattle.air.specs.ChallengeId.{SAMPLE-COUNT}
 use Rattle.challenges.specs.Derived.{challengeAt}
 use Rattle.processor_table.specs.Rows.{rows}
 use Rattle.processor_entries.specs.Columns.{Column, kindOf, indeterminateOf}
+use Rattle.processor_entries.specs.AuxRow.{placeOf}
 use Rattle.processor.proofs.extend.{signature}
 use Rattle.processor.proofs.extend.Kinds as kinds
 use Rattle.processor.proofs.extend.Reads.{Learnt}
-use Rattle.soundness.specs.Term3.{placeOf, put, entriesOf, Differ, bound}
+use Rattle.soundness.specs.Term3.{put, entriesOf, Differ, bound}
 
 -- A call that answers Done, under the contract, and leaves v in the column's last cell, with x as the column's own indeterminate.
 -- Its arguments are main, challenges, chunk, aux and work, in this order.

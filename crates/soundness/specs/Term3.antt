@@ -13,24 +13,11 @@ use Rattle.refusal.specs.declared.Answer.the-variants.{Done}
 use Rattle.air.specs.ChallengeId.{SAMPLE-COUNT}
 use Rattle.challenges.specs.Derived.{challengeAt}
 use Rattle.processor_table.specs.Rows.{rows}
-use Rattle.processor_entries.specs.Columns.{Column, input, output, instruction, opStack, ram, jumpStack, hashInput, hashDigest, sponge, u32, clock, Kind, evaluation, product, lookup, kindOf, Entry, indeterminateOf, weightsOf, entries}
+use Rattle.processor_entries.specs.Columns.{Column, Kind, evaluation, product, lookup, kindOf, Entry, indeterminateOf, weightsOf, entries}
+use Rattle.processor_entries.specs.AuxRow.{placeOf}
 use Rattle.extension_answer.specs.Answer.{extendAnswer}
 use Rattle.processor.specs.Extend.{extendAux}
 use Rattle.soundness.specs.Counting.{SameBag, NumeratorsDiffer}
-
--- the column's place in a row of the auxiliary table
-abbrev pub placeOf : Column → ℕ
-placeOf input = 0
-placeOf output = 1
-placeOf instruction = 2
-placeOf opStack = 3
-placeOf ram = 4
-placeOf jumpStack = 5
-placeOf hashInput = 6
-placeOf hashDigest = 7
-placeOf sponge = 8
-placeOf u32 = 9
-placeOf clock = 10
 
 -- the sampled challenges with challenge i set to x
 abbrev pub put : ℕ → XFieldElement → (ℕ → XFieldElement) → ℕ → XFieldElement

@@ -1,7 +1,7 @@
 -- Over no entries each argument is where it starts.
 use mathlib.Core.Path.{refl}
 use Rattle.cross_table_argument.specs.CrossTable.{evaluation, runningProduct, runningSum}
-use Rattle.column_steps.specs.Step.{running}
+use Rattle.processor_entries.specs.Columns.{running}
 use Rattle.cells.proofs.unchecked.first_cells.Statement.{statement}
 use Rattle.cells.proofs.unchecked.first_cells.Tie as tie
 
