@@ -1,4 +1,4 @@
--- The challenges and the two rows of a window, once their words are known to be below p.
+-- The challenges and a table, once they are known to be whole and their words below p.
 use mathlib.Core.Path.{_≡_}
 use mathlib.Core.Bool.{true}
 use mathlib.Core.List.{List}
@@ -6,8 +6,11 @@ use Prim.Native.Nat.{ℕ}
 use lib.ListN.{length}
 use Rattle.base_field.specs.Words.{allBelow}
 
-pub record Ready (challenges prev curr : List ℕ) : Type 0 where
+pub record ReadyTable (challenges main : List ℕ) : Type 0 where
   pub whole : length challenges ≡ 189
   pub challenges-below : allBelow challenges ≡ true
-  pub prev-below : allBelow prev ≡ true
-  pub curr-below : allBelow curr ≡ true
+  pub main-below : allBelow main ≡ true
+
+-- the same of a window's two rows
+abbrev pub Ready : (challenges prev curr : List ℕ) → Type 0
+Ready challenges prev curr = ReadyTable challenges prev × ReadyTable challenges curr

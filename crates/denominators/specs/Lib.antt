@@ -1,3 +1,2 @@
 -- The denominators of a table, row by row.
-pub mod ReadyTable
 pub mod Items

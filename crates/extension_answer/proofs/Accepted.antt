@@ -15,7 +15,7 @@ use Rattle.base_field.proofs.Below.{and-true}
 use Rattle.processor_table.specs.Rows.{wholeRows, rows}
 use Rattle.refusal.proofs.Answers.{past, or-false}
 use Rattle.processor_entries.specs.Denominators.{zeroDenominator}
-use Rattle.denominators.specs.ReadyTable.{ReadyTable}
+use Rattle.column_weights.specs.Ready.{ReadyTable}
 use Rattle.extension_answer.specs.Answer.{rightLengths, extendAnswer}
 
 pub record Lengths (main challenges aux work : List ℕ) : Type 0 where
