@@ -1,8 +1,9 @@
 //! Main tables and challenges to compare and race on.
 
-use tealbobbin::field::P;
+use tealbobbin::field::{Element, P};
 use tealbobbin::plain::extension::column::{CI, CLK, IS_PADDING, MULTIPLICITY, NIA};
 pub use tealbobbin::plain::extension::opcode::ALL as OPCODES;
+use tealbobbin::plain::extension::{COLUMNS, Challenges, Kind};
 use tealbobbin::plain::pad;
 use tealbobbin::random::Random;
 
@@ -56,6 +57,15 @@ pub fn challenges(random: &mut Random) -> Vec<u64> {
         _ => random.base(),
     };
     (0..189).map(|i| word(random, i)).collect()
+}
+
+/// The elements that a row enters into a column.
+pub fn symbols(column: usize, previous: Option<&[u64]>, current: &[u64], challenges: &[u64]) -> Vec<Element> {
+    let challenges = Challenges(challenges);
+    match COLUMNS[column].1 {
+        Kind::Evaluation(entries) | Kind::Product(entries) => entries(previous, current, challenges).unwrap_or_default(),
+        Kind::Lookup(entries) => entries(previous, current, challenges).unwrap_or_default().iter().map(|entry| entry.1).collect(),
+    }
 }
 
 /// An instruction with its argument, and how often it comes.

@@ -1,9 +1,9 @@
 //! Extension, with the original's panics as refusals.
 
-use oracle::rows::{ARGUMENTS, OPCODES, OTHERS, REALISTIC, WORST, any_row, any_table, challenges, mixed, row};
+use oracle::rows::{ARGUMENTS, OPCODES, OTHERS, REALISTIC, WORST, any_row, any_table, challenges, mixed, row, symbols};
 use tealbobbin::abi::extend;
-use tealbobbin::field::{Element, P};
-use tealbobbin::plain::extension::{COLUMNS, Challenges, Kind};
+use tealbobbin::field::P;
+use tealbobbin::plain::extension::COLUMNS;
 use tealbobbin::random::Random;
 
 use crate::LONG;
@@ -16,15 +16,6 @@ pub fn chunk(random: &mut Random, items: usize) -> usize {
     let any = random.word() as usize;
     let around = [1, 2, 3, 4, items.max(2) - 1, items.max(1), items + 1, any % (items + 2) + 1, 1024, usize::MAX];
     around[any % around.len()]
-}
-
-/// The elements that a row enters into a column.
-fn symbols(column: usize, previous: Option<&[u64]>, current: &[u64], challenges: &[u64]) -> Vec<Element> {
-    let challenges = Challenges(challenges);
-    match COLUMNS[column].1 {
-        Kind::Evaluation(entries) | Kind::Product(entries) => entries(previous, current, challenges).unwrap_or_default(),
-        Kind::Lookup(entries) => entries(previous, current, challenges).unwrap_or_default().iter().map(|entry| entry.1).collect(),
-    }
 }
 
 struct Case<'a> {
