@@ -1,9 +1,8 @@
 -- Extension that ends with Done wrote its cells, and zeros in work.
-use mathlib.Core.Path.{_≡_, ap}
+use mathlib.Core.Path.{_≡_}
 use mathlib.Core.List.{List}
 use Prim.Native.Nat.{ℕ}
 use lib.ListN.{length, replicate}
-use Rattle.refusal.specs.Number.{onDone}
 use Rattle.refusal.specs.declared.Answer.the-variants.{Done}
 use Rattle.auxiliary_table.specs.Extended.{extended}
 use Rattle.extension_answer.specs.Answer.{extendAnswer}
@@ -12,8 +11,8 @@ use Rattle.processor.specs.Extend.{extendAux, extendWork}
 module _ (main challenges : List ℕ) (chunk : ℕ) (aux work : List ℕ) (done : extendAnswer main challenges chunk aux work ≡ Done) where
   pub written : extendAux main challenges chunk aux work ≡ extended main challenges
   unfolding extendAux
-  written = ap (λ answer. onDone answer (extended main challenges) aux) done
+  written = rw done
 
   pub cleared : extendWork main challenges chunk aux work ≡ replicate (length work) 0
   unfolding extendWork
-  cleared = ap (λ answer. onDone answer (replicate (length work) 0) work) done
+  cleared = rw done
