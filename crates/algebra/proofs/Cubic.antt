@@ -92,7 +92,7 @@ module _ (R : CommRing) where
   ev3 ρ a = record { x0 = ev R ρ (a .x0); x1 = ev R ρ (a .x1); x2 = ev R ρ (a .x2) }
 
   pub solve3 : (ρ : List C) (a b : Triple Expr)
-      → Equal 0 (length ρ) (a .x0) (b .x0) × Equal 0 (length ρ) (a .x1) (b .x1) × Equal 0 (length ρ) (a .x2) (b .x2)
+      → Equal (length ρ) (a .x0) (b .x0) × Equal (length ρ) (a .x1) (b .x1) × Equal (length ρ) (a .x2) (b .x2)
       → ev3 ρ a ≡ ev3 ρ b
   solve3 ρ a b t =
       triple-path

@@ -2,8 +2,7 @@
 use mathlib.Core.Path.{_≡_, refl, ap, ap₂, sym, _∙_}
 use mathlib.Core.Bool.{Bool, true, false, _&&_}
 use mathlib.Core.List.{List, [], _∷_}
-use Prim.Native.Nat.{ℕ, zero, suc, _+_, _*_, _/_, _%_}
-use native.Mathlib.Nat.{mod-add-div}
+use Prim.Native.Nat.{ℕ, zero, suc, _+_, _*_}
 use lib.Dec.{T, eqb, eqb→eq}
 use lib.ListN.{length}
 use Rattle.algebra.specs.Ring.{CommRing}
@@ -48,15 +47,6 @@ v7 = var 7
 abbrev pub v8 : Expr
 v8 = var 8
 
-abbrev pub v9 : Expr
-v9 = var 9
-
-abbrev pub v10 : Expr
-v10 = var 10
-
-abbrev pub v11 : Expr
-v11 = var 11
-
 -- a whole number, as the difference of two numbers
 pub data Coef : Type 0 where
   diff : ℕ → ℕ → Coef
@@ -75,9 +65,8 @@ mulC (diff a b) (diff c d) = diff (a * c + b * d) (a * d + b * c)
 abbrev pub negC : Coef → Coef
 negC (diff a b) = diff b a
 
--- zero in a ring in which the number m is zero (m = 0: in any ring)
-abbrev pub nullC : ℕ → Coef → Bool
-nullC m (diff a b) = eqb (a % m) (b % m)
+abbrev pub nullC : Coef → Bool
+nullC (diff a b) = eqb a b
 
 module _ {A : Type 0} where
   abbrev pub addL : (A → A → A) → List A → List A → List A
@@ -127,9 +116,9 @@ abbrev pub mulP : (n : ℕ) → Poly n → Poly n → Poly n
 mulP zero p q = mulC p q
 mulP (suc n) p q = mulL (zeroP n) (addP n) (mulP n) p q
 
-abbrev pub nullP : ℕ → (n : ℕ) → Poly n → Bool
-nullP m zero p = nullC m p
-nullP m (suc n) p = allL (nullP m n) p
+abbrev pub nullP : (n : ℕ) → Poly n → Bool
+nullP zero p = nullC p
+nullP (suc n) p = allL (nullP n) p
 
 abbrev pub normal : (n : ℕ) → Expr → Poly n
 normal n (var j) = varP n j
@@ -140,9 +129,9 @@ normal n (a ⊕ b) = addP n (normal n a) (normal n b)
 normal n (a ⊗ b) = mulP n (normal n a) (normal n b)
 normal n (⊖ a) = negP n (normal n a)
 
--- that the sides are equal in each ring in which m is zero; m = 0: in each ring
-abbrev pub Equal : ℕ → ℕ → Expr → Expr → Type 0
-Equal m n a b = T (nullP m n (normal n (a ⊕ ⊖ b)))
+-- that the sides are equal in each ring
+abbrev pub Equal : ℕ → Expr → Expr → Type 0
+Equal n a b = T (nullP n (normal n (a ⊕ ⊖ b)))
 
 T-and-left : (a b : Bool) → T (a && b) → T a
 T-and-left true b t = tt
@@ -213,16 +202,9 @@ module _ (R : CommRing) where
   negC-sound (diff a b) =
       add-comm (nat R b) (neg (nat R a)) ∙ ap (add (neg (nat R a))) (sym (neg-neg R (nat R b))) ∙ sym (neg-add R (nat R a) (neg (nat R b)))
 
-  nat-mod : (m : ℕ) → nat R m ≡ o → (a : ℕ) → nat R (a % m) ≡ nat R a
-  nat-mod m h a =
-      sym (add-zero (nat R (a % m))) ∙ ap (add (nat R (a % m))) (sym (nat-mul R m (a / m) ∙ ap (λ x. mul x (nat R (a / m))) h ∙ zero-mul R (nat R (a / m))))
-      ∙ sym (nat-add R (a % m) (m * (a / m))) ∙ ap (nat R) (mod-add-div a m)
-
-  nullC-sound : (m : ℕ) → nat R m ≡ o → (p : Coef) → T (nullC m p) → evC p ≡ o
+  nullC-sound : (p : Coef) → T (nullC p) → evC p ≡ o
   unfolding evC
-  nullC-sound m h (diff a b) t =
-      ap₂ (λ x y. add x (neg y)) (sym (nat-mod m h a)) (sym (nat-mod m h b))
-      ∙ ap (λ x. add (nat R x) (neg (nat R (b % m)))) (eqb→eq (a % m) (b % m) t) ∙ add-neg (nat R (b % m))
+  nullC-sound (diff a b) t = ap (λ x. add (nat R x) (neg (nat R b))) (eqb→eq a b t) ∙ add-neg (nat R b)
 
   litC-sound : (k : ℕ) → evC (diff k 0) ≡ nat R k
   unfolding evC nat
@@ -310,10 +292,10 @@ module _ (R : CommRing) where
   mulP-sound (x ∷ ρ) p q =
       mulL-sound x (evP ρ) (zeroP (length ρ)) (addP (length ρ)) (mulP (length ρ)) (zeroP-sound ρ) (addP-sound ρ) (mulP-sound ρ) p q
 
-  nullP-sound : (m : ℕ) → nat R m ≡ o → (ρ : List C) (p : Poly (length ρ)) → T (nullP m (length ρ) p) → evP ρ p ≡ o
+  nullP-sound : (ρ : List C) (p : Poly (length ρ)) → T (nullP (length ρ) p) → evP ρ p ≡ o
   unfolding evP
-  nullP-sound m h [] p t = nullC-sound m h p t
-  nullP-sound m h (x ∷ ρ) p t = allL-sound x (evP ρ) (nullP m (length ρ)) (nullP-sound m h ρ) p t
+  nullP-sound [] p t = nullC-sound p t
+  nullP-sound (x ∷ ρ) p t = allL-sound x (evP ρ) (nullP (length ρ)) (nullP-sound ρ) p t
 
   normal-sound : (ρ : List C) (e : Expr) → evP ρ (normal (length ρ) e) ≡ ev ρ e
   normal-sound ρ (var j) = varP-sound ρ j
@@ -324,11 +306,7 @@ module _ (R : CommRing) where
   normal-sound ρ (a ⊗ b) = mulP-sound ρ (normal (length ρ) a) (normal (length ρ) b) ∙ ap₂ mul (normal-sound ρ a) (normal-sound ρ b)
   normal-sound ρ (⊖ a) = negP-sound ρ (normal (length ρ) a) ∙ ap neg (normal-sound ρ a)
 
-  pub solveMod : (m : ℕ) → nat R m ≡ o → (ρ : List C) (a b : Expr) → Equal m (length ρ) a b → ev ρ a ≡ ev ρ b
-  solveMod m h ρ a b t =
+  pub solve : (ρ : List C) (a b : Expr) → Equal (length ρ) a b → ev ρ a ≡ ev ρ b
+  solve ρ a b t =
       eq-of-sub R (ev ρ a) (ev ρ b)
-      (sym (normal-sound ρ (a ⊕ ⊖ b)) ∙ nullP-sound m h ρ (normal (length ρ) (a ⊕ ⊖ b)) t)
-
-  pub solve : (ρ : List C) (a b : Expr) → Equal 0 (length ρ) a b → ev ρ a ≡ ev ρ b
-  unfolding nat
-  solve ρ a b t = solveMod 0 refl ρ a b t
+      (sym (normal-sound ρ (a ⊕ ⊖ b)) ∙ nullP-sound ρ (normal (length ρ) (a ⊕ ⊖ b)) t)

@@ -1,5 +1,4 @@
 -- Polynomials as lists of coefficients, the lowest first, and lists without duplicates.
-use mathlib.Core.Path.{_≡_}
 use mathlib.Core.Logic.{_≢_}
 use mathlib.Core.List.{List, [], _∷_}
 use Prim.Native.Nat.{ℕ}
