@@ -1,5 +1,5 @@
 -- The field's operations over slices: 1 if a slice has another length than an element or a word, then the operation's answer.
-use mathlib.Core.Bool.{Bool, cond, _&&_}
+use mathlib.Core.Bool.{Bool, cond}
 use mathlib.Core.List.{List, [], _∷_}
 use Prim.Native.Nat.{ℕ}
 use lib.Dec.{eqb}

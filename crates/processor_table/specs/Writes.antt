@@ -1,5 +1,5 @@
 -- What the functions that write into the table leave.
-use mathlib.Core.List.{List, [], _∷_, _++_}
+use mathlib.Core.List.{List, _++_}
 use Prim.Native.Nat.{ℕ, suc, _+_, _*_}
 use lib.ListN.{take, drop, getD, set}
 use Rattle.algebra.specs.Modulus.{plus}

@@ -1,7 +1,7 @@
 -- The answer's case decides what is written.
 use borrow.Author.Needs.{needs}
 use borrow.Author.Tests.{eq-eqb, ne-eqb}
-use mathlib.Core.Path.{_≡_, _∙_}
+use mathlib.Core.Path.{_∙_}
 use Rattle.abi_answers.proofs.Whole.{whole}
 use Rattle.abi_answers.proofs.put_element.Statement.{statement}
 use Rattle.abi_answers.proofs.put_element.Tie as tie
