@@ -1,10 +1,9 @@
 -- Pad: the last row of the trace copied downward, and row 1's multiplicity grown by the number of padding rows.
 use mathlib.Core.Bool.{cond, not, _||_}
 use mathlib.Core.List.{List}
-use Prim.Native.Nat.{ℕ, _+_, _-_, _*_}
+use Prim.Native.Nat.{ℕ, _-_, _*_}
 use lib.Dec.{eqb, ltb}
-use lib.ListN.{take, getD, set}
-use Rattle.algebra.specs.Modulus.{plus}
+use lib.ListN.{take, set}
 use Rattle.base_field.specs.Words.{allBelow}
 use Rattle.refusal.specs.Number.{onDone}
 use Rattle.refusal.specs.Long.{isLong}
@@ -13,6 +12,7 @@ use Rattle.refusal.specs.declared.Answer.the-variants.{Done, Refused}
 use Rattle.refusal.specs.declared.Refusal.the-variants.{SliceLength, RowCount, WordNotBelowP}
 use Rattle.air.specs.MainColumn.{CLK, IS-PADDING, CLOCK-JUMP-DIFFERENCE-LOOKUP-MULTIPLICITY}
 use Rattle.processor_table.specs.Rows.{wholeRows, rows, rowAt, rowsFrom}
+use Rattle.processor_table.specs.Writes.{raised}
 
 -- "1 unless the table is whole rows; 3 if rows are under 2 or long, or table_len is 0 or above rows; 2 in the first table_len rows."
 unfoldable pub padAnswer : List ℕ → ℕ → Answer
@@ -30,15 +30,9 @@ paddingRow last c = set (set (set last IS-PADDING 1) CLOCK-JUMP-DIFFERENCE-LOOKU
 abbrev pub paddedRow : List ℕ → ℕ → ℕ → List ℕ
 paddedRow table len c = cond (ltb c len) (rowAt table c) (paddingRow (rowAt table (len - 1)) c)
 
--- row 1's multiplicity grows by n, modulo p
-abbrev pub grown : List ℕ → ℕ → List ℕ
-grown table n =
-    let at = 39 + CLOCK-JUMP-DIFFERENCE-LOOKUP-MULTIPLICITY in
-    set table at (plus (getD table at 0) n)
-
 unfoldable pub padded : List ℕ → ℕ → List ℕ
 unfolding rowsFrom
-padded table len = grown (rowsFrom (paddedRow table len) 0 (rows table)) (rows table - len)
+padded table len = raised (rowsFrom (paddedRow table len) 0 (rows table)) 1 (rows table - len)
 
 -- what the table holds then
 unfoldable pub padTable : List ℕ → ℕ → List ℕ
