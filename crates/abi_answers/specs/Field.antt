@@ -7,7 +7,7 @@ use lib.ListN.{length}
 use Rattle.base_field.specs.Answers.{baseNumber}
 use Rattle.base_field.specs.declared.BaseAnswer.{BaseAnswer}
 use Rattle.base_field.specs.declared.BaseAnswer.the-variants as base-answer
-use Rattle.field.specs.Answers as answers
+use Rattle.field.specs.Answers.{elementNumber}
 use Rattle.field.specs.Element.{elementAt, wordsOf}
 use Rattle.field.specs.declared.XFieldElement.{XFieldElement}
 use Rattle.field.specs.declared.ElementAnswer.{ElementAnswer}
@@ -35,20 +35,20 @@ abbrev pub baseInto : List ℕ → BaseAnswer → List ℕ
 baseInto out answer = cond (isWord out) (baseWritten out answer) out
 
 abbrev pub elementNumberInto : List ℕ → ElementAnswer → ℕ
-elementNumberInto out answer = cond (isElement out) (answers.elementNumber answer) 1
+elementNumberInto out answer = cond (isElement out) (elementNumber answer) 1
 
 abbrev pub elementInto : List ℕ → ElementAnswer → List ℕ
 elementInto out answer = cond (isElement out) (elementWritten out answer) out
 
 -- an operation on one element and on two
-abbrev pub elementNumber : (XFieldElement → ElementAnswer) → List ℕ → List ℕ → ℕ
-elementNumber f a out = cond (isElement a) (elementNumberInto out (f (elementAt a 0))) 1
+abbrev pub unaryNumber : (XFieldElement → ElementAnswer) → List ℕ → List ℕ → ℕ
+unaryNumber f a out = cond (isElement a) (elementNumberInto out (f (elementAt a 0))) 1
 
-abbrev pub elementOut : (XFieldElement → ElementAnswer) → List ℕ → List ℕ → List ℕ
-elementOut f a out = cond (isElement a) (elementInto out (f (elementAt a 0))) out
+abbrev pub unaryOut : (XFieldElement → ElementAnswer) → List ℕ → List ℕ → List ℕ
+unaryOut f a out = cond (isElement a) (elementInto out (f (elementAt a 0))) out
 
-abbrev pub elementNumber2 : (XFieldElement → XFieldElement → ElementAnswer) → List ℕ → List ℕ → List ℕ → ℕ
-elementNumber2 f a b out = cond (isElement a) (elementNumber (f (elementAt a 0)) b out) 1
+abbrev pub binaryNumber : (XFieldElement → XFieldElement → ElementAnswer) → List ℕ → List ℕ → List ℕ → ℕ
+binaryNumber f a b out = cond (isElement a) (unaryNumber (f (elementAt a 0)) b out) 1
 
-abbrev pub elementOut2 : (XFieldElement → XFieldElement → ElementAnswer) → List ℕ → List ℕ → List ℕ → List ℕ
-elementOut2 f a b out = cond (isElement a) (elementOut (f (elementAt a 0)) b out) out
+abbrev pub binaryOut : (XFieldElement → XFieldElement → ElementAnswer) → List ℕ → List ℕ → List ℕ → List ℕ
+binaryOut f a b out = cond (isElement a) (unaryOut (f (elementAt a 0)) b out) out

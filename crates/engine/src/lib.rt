@@ -22,7 +22,7 @@ ghost use Rattle.batch_commands.specs.Format.{ROW, OP-STACK, RAM, JUMP-STACK, S
 ghost use Rattle.batch.specs.Open.{openNumber, openSlice};
 ghost use Rattle.abi_answers.specs.Open.{openInto, countsInto};
 ghost use Rattle.abi_answers.specs.Decode.{decodeNumberInto, decodeInto};
-ghost use Rattle.abi_answers.specs.Field.{baseNumberInto, baseInto, elementNumber, elementOut, elementNumber2, elementOut2};
+ghost use Rattle.abi_answers.specs.Field.{baseNumberInto, baseInto, unaryNumber, unaryOut, binaryNumber, binaryOut};
 
 #[no_mangle]
 pub extern "C" fn tealbobbin_base_add(a: u64, b: u64, out: &mut [u64]) -> u32
@@ -58,8 +58,8 @@ pub extern "C" fn tealbobbin_base_inverse(a: u64, out: &mut [u64]) -> u32
 
 #[no_mangle]
 pub extern "C" fn tealbobbin_element_add(a: &[u64], b: &[u64], out: &mut [u64]) -> u32
-    ensures number { λ r. ⌜ r ≡ elementNumber2 elementAdd (now (a .entry)) (now (b .entry)) (now (out .entry)) ⌝ }
-    ensures written { λ r. ⌜ now (out .exit) ≡ elementOut2 elementAdd (now (a .entry)) (now (b .entry)) (now (out .entry)) ⌝ }
+    ensures number { λ r. ⌜ r ≡ binaryNumber elementAdd (now (a .entry)) (now (b .entry)) (now (out .entry)) ⌝ }
+    ensures written { λ r. ⌜ now (out .exit) ≡ binaryOut elementAdd (now (a .entry)) (now (b .entry)) (now (out .entry)) ⌝ }
 {
     if a.len() != 3 {
         return 1;
@@ -74,8 +74,8 @@ pub extern "C" fn tealbobbin_element_add(a: &[u64], b: &[u64], out: &mut [u64]) 
 
 #[no_mangle]
 pub extern "C" fn tealbobbin_element_sub(a: &[u64], b: &[u64], out: &mut [u64]) -> u32
-    ensures number { λ r. ⌜ r ≡ elementNumber2 elementSub (now (a .entry)) (now (b .entry)) (now (out .entry)) ⌝ }
-    ensures written { λ r. ⌜ now (out .exit) ≡ elementOut2 elementSub (now (a .entry)) (now (b .entry)) (now (out .entry)) ⌝ }
+    ensures number { λ r. ⌜ r ≡ binaryNumber elementSub (now (a .entry)) (now (b .entry)) (now (out .entry)) ⌝ }
+    ensures written { λ r. ⌜ now (out .exit) ≡ binaryOut elementSub (now (a .entry)) (now (b .entry)) (now (out .entry)) ⌝ }
 {
     if a.len() != 3 {
         return 1;
@@ -90,8 +90,8 @@ pub extern "C" fn tealbobbin_element_sub(a: &[u64], b: &[u64], out: &mut [u64]) 
 
 #[no_mangle]
 pub extern "C" fn tealbobbin_element_mul(a: &[u64], b: &[u64], out: &mut [u64]) -> u32
-    ensures number { λ r. ⌜ r ≡ elementNumber2 elementMul (now (a .entry)) (now (b .entry)) (now (out .entry)) ⌝ }
-    ensures written { λ r. ⌜ now (out .exit) ≡ elementOut2 elementMul (now (a .entry)) (now (b .entry)) (now (out .entry)) ⌝ }
+    ensures number { λ r. ⌜ r ≡ binaryNumber elementMul (now (a .entry)) (now (b .entry)) (now (out .entry)) ⌝ }
+    ensures written { λ r. ⌜ now (out .exit) ≡ binaryOut elementMul (now (a .entry)) (now (b .entry)) (now (out .entry)) ⌝ }
 {
     if a.len() != 3 {
         return 1;
@@ -106,8 +106,8 @@ pub extern "C" fn tealbobbin_element_mul(a: &[u64], b: &[u64], out: &mut [u64]) 
 
 #[no_mangle]
 pub extern "C" fn tealbobbin_element_scale(k: u64, a: &[u64], out: &mut [u64]) -> u32
-    ensures number { λ r. ⌜ r ≡ elementNumber (elementScale k) (now (a .entry)) (now (out .entry)) ⌝ }
-    ensures written { λ r. ⌜ now (out .exit) ≡ elementOut (elementScale k) (now (a .entry)) (now (out .entry)) ⌝ }
+    ensures number { λ r. ⌜ r ≡ unaryNumber (elementScale k) (now (a .entry)) (now (out .entry)) ⌝ }
+    ensures written { λ r. ⌜ now (out .exit) ≡ unaryOut (elementScale k) (now (a .entry)) (now (out .entry)) ⌝ }
 {
     if a.len() != 3 {
         return 1;
@@ -118,8 +118,8 @@ pub extern "C" fn tealbobbin_element_scale(k: u64, a: &[u64], out: &mut [u64]) -
 
 #[no_mangle]
 pub extern "C" fn tealbobbin_element_inverse(a: &[u64], out: &mut [u64]) -> u32
-    ensures number { λ r. ⌜ r ≡ elementNumber elementInverse (now (a .entry)) (now (out .entry)) ⌝ }
-    ensures written { λ r. ⌜ now (out .exit) ≡ elementOut elementInverse (now (a .entry)) (now (out .entry)) ⌝ }
+    ensures number { λ r. ⌜ r ≡ unaryNumber elementInverse (now (a .entry)) (now (out .entry)) ⌝ }
+    ensures written { λ r. ⌜ now (out .exit) ≡ unaryOut elementInverse (now (a .entry)) (now (out .entry)) ⌝ }
 {
     if a.len() != 3 {
         return 1;
