@@ -9,7 +9,7 @@ use Rattle.algebra.proofs.Elements.{ElementRing as R, zero-below}
 use Rattle.algebra.proofs.ElementField.{element-field as K}
 use Rattle.field.specs.Element.{lift, zero, one, sum, difference, product, scale, inverse}
 use Rattle.field.specs.declared.XFieldElement.{XFieldElement}
-use Rattle.field.proofs.Laws.{into, into-injective, into-zero, into-one, into-sum, into-difference, into-product, into-scale, into-inverse, from-below, difference-canonical}
+use Rattle.field.proofs.Laws.{into, into-injective, into-zero, into-one, into-sum, into-difference, into-product, into-scale, into-inverse, difference-canonical}
 use Rattle.cross_table_argument.specs.CrossTable.{Fraction, evaluation, evaluationArgument, runningProduct, permutationArgument, runningSum, lookupArgument}
 use Rattle.soundness.specs.Counting.{Defined}
 use Rattle.soundness.proofs.Lists.{All-map}
@@ -54,7 +54,7 @@ abbrev pub term : Fraction → Term (R .Carrier)
 term f = record { numerator = into (lift (f .numerator)); symbol = into (f .symbol) }
 
 into-denominator : (x e : XFieldElement) → difference x e ≢ zero → into (difference x e) ≢ o
-into-denominator x e ne z = ne (into-injective (difference-canonical x e) (from-below zero-below) (z ∙ sym into-zero))
+into-denominator x e ne z = ne (into-injective (difference-canonical x e) zero-below (z ∙ sym into-zero))
 
 into-over : (a : XFieldElement) → into a ≢ o → into (inverse a) ≡ ring-sum.inverse R K (into a)
 into-over a ne =

@@ -17,7 +17,7 @@ use Rattle.algebra.proofs.Elements.{ElementRing as R, scalar, into-lift, lift-b
 use Rattle.algebra.proofs.ElementField.{element-field as K}
 use Rattle.field.specs.Element.{element, Canonical, lift, sum}
 use Rattle.field.specs.declared.XFieldElement.{XFieldElement}
-use Rattle.field.proofs.Laws.{into, into-injective, into-zero, into-sum, from-below}
+use Rattle.field.proofs.Laws.{into, into-injective, into-zero, into-sum}
 use Rattle.cross_table_argument.specs.CrossTable.{Fraction}
 use Rattle.soundness.specs.Counting.{same, count, SameBag, numerators, NumeratorsDiffer}
 use Rattle.soundness.proofs.Tests.{and-both, both-and, choose, choose-cond}
@@ -76,7 +76,7 @@ into-add m n = sym (into-mod (m + n)) ∙ into-sum (lift m) (lift n)
 into-lift-injective : (m n : ℕ) → into (lift m) ≡ into (lift n) → m % p ≡ n % p
 into-lift-injective m n e =
     ap (λ a. a .c0)
-    (into-injective (from-below (lift-below (m % p) (mod-lt m p-positive))) (from-below (lift-below (n % p) (mod-lt n p-positive)))
+    (into-injective (lift-below (m % p) (mod-lt m p-positive)) (lift-below (n % p) (mod-lt n p-positive))
     (into-mod m ∙ e ∙ sym (into-mod n)))
 
 into-cond : (t : Bool) (n : ℕ) → cond t (into (lift n)) o ≡ into (lift (cond t n 0))
