@@ -3,19 +3,21 @@ use mathlib.Core.Path.{_≡_, ap, sym, _∙_}
 use mathlib.Core.List.{List, [], _∷_, map}
 use mathlib.Core.Logic.{_≢_, _⊎_, inl, inr}
 use Prim.Native.Nat.{ℕ}
+use native.Mathlib.Omega.{arith}
 use lib.Dec.{lit<}
 use lib.ListN.{length-map}
 use Rattle.algebra.specs.Modulus as base
 use Rattle.algebra.specs.Modulus.{plus, minus, times}
 use Rattle.algebra.specs.Element.{Triple, Below, zero, product, inverse}
 use Rattle.algebra.specs.Polynomial.{All, Distinct, value}
-use Rattle.algebra.specs.Theorems.{ModulusPrime, NoRoot, BaseInverse, ElementInverse, NoZeroDivisors, RootBound}
+use Rattle.algebra.specs.Theorems.{ModulusPrime, NoRoot, BaseInverse, ElementInverse, ElementsAreAField, NoZeroDivisors, RootBound}
 use Rattle.algebra.proofs.Primality.{p-prime}
 use Rattle.algebra.proofs.FieldLaws.{field-cancel}
 use Rattle.algebra.proofs.Base.{BaseRing, el, el-injective, el-times, el-zero, el-one, el-laws, el-nonzero, el-inverse, base-inverse-below, times-below}
 use Rattle.algebra.proofs.NoRoot.{base-no-root}
 use Rattle.algebra.proofs.Cubic.{ops, cubicAt}
 use Rattle.algebra.proofs.Roots as roots
+use Rattle.algebra.proofs.Elements as law
 use Rattle.algebra.proofs.Elements.{ElementRing, into, into-zero, into-one, into-sum, into-product, into-injective, triple-discrete, zero-below, one-below, product-below}
 use Rattle.algebra.proofs.ElementField.{element-field, into-nonzero, into-inverse, inverse-below}
 
@@ -41,6 +43,27 @@ element-inverse a h ne = (
   into-injective (product a (inverse a)) _ (product-below a (inverse a)) one-below
       (into-product a (inverse a) ∙ into-inverse a (into-nonzero a h ne) ∙ sym into-one),
 )
+
+pub elements-are-a-field : ElementsAreAField
+elements-are-a-field =
+    record {
+      zero-below = law.zero-below;
+      one-below = law.one-below;
+      sum-below = law.sum-below;
+      difference-below = law.difference-below;
+      product-below = law.product-below;
+      sum-assoc = law.sum-assoc;
+      sum-comm = law.sum-comm;
+      sum-zero = law.sum-zero;
+      sum-negative = law.sum-negative;
+      difference-sum = law.difference-sum;
+      product-assoc = law.product-assoc;
+      product-comm = law.product-comm;
+      product-one = law.product-one;
+      distrib = law.distrib;
+      one≢zero = λ e. let z : _≡_ {A = ℕ} 1 0 = ap (λ t. t .x0) e in omega arith;
+      product-inverse = element-inverse;
+    }
 
 pub no-zero-divisors : NoZeroDivisors
 no-zero-divisors a b h k e = go (triple-discrete a zero)

@@ -6,7 +6,7 @@ use Prim.Native.Nat.{ℕ, _<_}
 use lib.ListN.{length}
 use Rattle.algebra.specs.Modulus as base
 use Rattle.algebra.specs.Modulus.{p, Prime, plus, minus, times}
-use Rattle.algebra.specs.Element.{Triple, Below, zero, one, product, inverse}
+use Rattle.algebra.specs.Element.{Triple, Below, zero, one, sum, difference, product, inverse}
 use Rattle.algebra.specs.Polynomial.{All, Distinct, value}
 
 abbrev pub ModulusPrime : Type 0
@@ -21,6 +21,25 @@ BaseInverse = (a : ℕ) → 0 < a → a < p → (base.inverse a < p) × (times a
 
 abbrev pub ElementInverse : Type 0
 ElementInverse = (a : Triple ℕ) → Below a → a ≢ zero → Below (inverse a) × (product a (inverse a) ≡ one)
+
+-- The elements, three words below p, are a field. A law that does not name `Below` holds of any three numbers.
+pub record ElementsAreAField : Type 0 where
+  pub zero-below : Below zero
+  pub one-below : Below one
+  pub sum-below : (a b : Triple ℕ) → Below (sum a b)
+  pub difference-below : (a b : Triple ℕ) → Below (difference a b)
+  pub product-below : (a b : Triple ℕ) → Below (product a b)
+  pub sum-assoc : (a b c : Triple ℕ) → sum (sum a b) c ≡ sum a (sum b c)
+  pub sum-comm : (a b : Triple ℕ) → sum a b ≡ sum b a
+  pub sum-zero : (a : Triple ℕ) → Below a → sum a zero ≡ a
+  pub sum-negative : (a : Triple ℕ) → sum a (difference zero a) ≡ zero
+  pub difference-sum : (a b : Triple ℕ) → difference a b ≡ sum a (difference zero b)
+  pub product-assoc : (a b c : Triple ℕ) → product (product a b) c ≡ product a (product b c)
+  pub product-comm : (a b : Triple ℕ) → product a b ≡ product b a
+  pub product-one : (a : Triple ℕ) → Below a → product a one ≡ a
+  pub distrib : (a b c : Triple ℕ) → product a (sum b c) ≡ sum (product a b) (product a c)
+  pub one≢zero : one ≢ zero
+  pub product-inverse : ElementInverse
 
 abbrev pub NoZeroDivisors : Type 0
 NoZeroDivisors = (a b : Triple ℕ) → Below a → Below b → product a b ≡ zero → (a ≡ zero) ⊎ (b ≡ zero)
