@@ -1,4 +1,5 @@
 -- What the operations on elements give.
 pub mod Element
+pub mod Words
 pub mod Answers
 pub mod Weighed

@@ -1,3 +1,3 @@
 -- Scans, and maps as words.
-pub mod Scan
 pub mod Maps
+pub mod Scan
