@@ -1,3 +1,4 @@
--- Scans, and maps as words.
+-- Scans, also by chunks, and maps as words.
 pub mod Maps
 pub mod Scan
+pub mod Chunks
