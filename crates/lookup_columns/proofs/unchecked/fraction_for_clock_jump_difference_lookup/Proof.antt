@@ -2,7 +2,9 @@
 use borrow.Author.Needs.{needs}
 use borrow.Author.Tests.{eq-eqb, ne-eqb}
 use mathlib.Core.Path.{sym, _∙_}
+use mathlib.Core.List.{[]}
 use native.Mathlib.Omega.{arith}
+use lib.ListN.{getD}
 use Rattle.processor_entries.specs.Entries.{clockEntries}
 use Rattle.processor_entries.specs.Contribution.{added}
 use Rattle.field.proofs.Units.{lift-canonical}
@@ -12,8 +14,8 @@ use Rattle.lookup_columns.proofs.unchecked.fraction_for_clock_jump_diff
 }
 use Rattle.lookup_columns.proofs.unchecked.fraction_for_clock_jump_difference_lookup.Tie as tie
 
-slice-aggregate-cell : tie.Need-slice-aggregate-cell
-slice-aggregate-cell c = search needs
+index-1-row : tie.Need-index-1-row
+index-1-row c = search needs
 
 cell-requires : tie.Need-cell-requires
 cell-requires c κs = search needs
@@ -21,9 +23,6 @@ cell-requires c κs = search needs
 returns : tie.Need-returns
 unfolding clockEntries added
 returns c = simp (eq-eqb _ 0 (sym (c .before .cell .ensures) ∙ c .if1 .taken))
-
-slice-aggregate-cell-2 : tie.Need-slice-aggregate-cell-2
-slice-aggregate-cell-2 c = search needs
 
 cell-requires-2 : tie.Need-cell-requires-2
 cell-requires-2 c κs = search needs
@@ -33,8 +32,8 @@ lift-requires c κs = search needs
 
 fraction-requires : tie.Need-fraction-requires
 fraction-requires c κs =
-    let start = c .before .before .before .before .before .before in
-    let below = word-below (start .args .t1) (start .pre .0) in (
+    let start = c .before .before .before .before .before .before .before in
+    let below = word-below (getD (start .args .t1) 1 []) (start .pre .0) in (
       omega (arith, below 38),
       (rw (c .lift .ensures, c .before .cell2 .ensures) (lift-canonical _ (below 0)), start .pre .1),
     )
@@ -49,10 +48,9 @@ pub fraction-for-clock-jump-difference-lookup-spec : {M : Type 1} → statement 
 fraction-for-clock-jump-difference-lookup-spec =
     tie.close
     (tie.spec
-    slice-aggregate-cell
+    index-1-row
     cell-requires
     returns
-    slice-aggregate-cell-2
     cell-requires-2
     lift-requires
     fraction-requires
