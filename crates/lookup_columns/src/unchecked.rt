@@ -7,6 +7,7 @@ use lookup_fractions::unchecked::fraction;
 use lookup_fractions::unchecked::lift;
 use processor_entries::RowFraction;
 use row_compression::unchecked::compress3;
+use row_compression::unchecked::is_padding;
 ghost use mathlib.Core.Path.{_≡_};
 ghost use mathlib.Core.Bool.{true};
 ghost use mathlib.Core.List.{[]};
@@ -25,7 +26,7 @@ pub fn fraction_for_instruction_lookup(
     ensures { λ r. ⌜ r ≡ added indeterminate noFraction (instructionEntries weights (getD window 1 [])) ⌝ }
 {
     let row = &window[1];
-    if cell(row, MainIndex::IS_PADDING) == 1 {
+    if is_padding(row) {
         return NO_FRACTION;
     }
     let words = [

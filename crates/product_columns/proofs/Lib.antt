@@ -1,3 +1,2 @@
--- Laws of the entries that the previous row's instruction brings.
+-- How far an instruction changes the stack.
 pub mod Change
-pub mod Entered

@@ -10,7 +10,7 @@ ghost use mathlib.Core.Path.{_≡_};
 ghost use Prim.Native.Nat.{_+_, _≤_};
 ghost use lib.ListN.{length};
 ghost use Rattle.field.specs.Element.{Canonical};
-ghost use Rattle.processor_entries.specs.Row.{cells, instructionOf, weigh};
+ghost use Rattle.processor_entries.specs.Row.{cells, isPadding, instructionOf, weigh};
 
 // `n` words, from a column on.
 pub fn cells(row: &[u64], column: MainIndex, n: usize) -> &[u64]
@@ -21,6 +21,13 @@ pub fn cells(row: &[u64], column: MainIndex, n: usize) -> &[u64]
     let start = column.0;
     let end = start + n;
     &row[start..end]
+}
+
+pub fn is_padding(row: &[u64]) -> bool
+    requires { ⌜ length (now row) ≡ 39 ⌝ }
+    ensures { λ r. ⌜ r ≡ isPadding (now (row .entry)) ⌝ }
+{
+    cell(row, MainIndex::IS_PADDING) == 1
 }
 
 pub fn instruction_from_row(row: &[u64]) -> Decoded

@@ -1,2 +1,0 @@
--- What the functions over a window answer.
-pub mod Rows
