@@ -1,4 +1,4 @@
--- A call's contract is an equation with the definitions that term 3 speaks of.
+-- A call's contract is an equation with the definitions that the terms speak of.
 use mathlib.Core.Path.{_≡_, sym, ap, _∙_}
 use mathlib.Core.List.{List}
 use Prim.Native.Nat.{ℕ, _+_, _-_, _*_}
@@ -12,8 +12,9 @@ use Rattle.extension_answer.specs.Answer.{extendAnswer}
 use Rattle.processor.specs.Extend.{extendAux}
 use Rattle.processor_entries.specs.AuxRow.{placeOf}
 use Rattle.soundness.specs.Term3.{Ends}
-use Rattle.soundness.specs.Calls.{Call, Term3OfCalls}
+use Rattle.soundness.specs.Calls.{Call, Term2OfCalls, Term3OfCalls}
 use Rattle.soundness.proofs.Lists.{All-imply}
+use Rattle.soundness.proofs.Term2.{term2}
 use Rattle.soundness.proofs.Term3.{term3}
 
 module _ {c : Column} {sampled : ℕ → XFieldElement} {x : XFieldElement} {main : List ℕ} {v : XFieldElement} (call : Call c sampled x main v) where
@@ -38,3 +39,12 @@ term3-of-calls c sampled main₁ main₂ differ xs distinct calls =
     term3 c sampled main₁ main₂ differ xs distinct
     (All-imply (λ x. (v : XFieldElement) × Call c sampled x main₁ v × Call c sampled x main₂ v) (λ x. (v : XFieldElement) × Ends c sampled x main₁ v × Ends c sampled x main₂ v)
     (λ x h. (h .0, ends (h .1), ends (h .2))) xs calls)
+
+pub term2-of-calls : Term2OfCalls
+term2-of-calls lifetimes arguments answer left contract accepted c r within =
+    let main = now (arguments .0) in
+    let challenges = now (arguments .1 .0) in
+    let chunk = arguments .1 .1 .0 in
+    let aux = now (arguments .1 .1 .1 .0) in
+    let work = now (arguments .1 .1 .1 .1 .0) in
+    ap (λ l. elementAt l (r * 33 + placeOf c * 3)) (contract .1 .0) ∙ term2 .cells main challenges chunk aux work (sym (contract .0) ∙ accepted) c r within

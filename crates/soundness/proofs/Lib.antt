@@ -12,5 +12,7 @@ pub mod Columns
 pub mod Cells
 pub mod Canonical
 pub mod Denominators
+pub mod Term2
 pub mod Term3
 pub mod Calls
+pub mod Term1

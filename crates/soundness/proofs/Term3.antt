@@ -1,30 +1,28 @@
--- Term 3 holds: the last cell is the column's argument over its entries, which do not depend on the column's own indeterminate,
+-- Term 3 holds: by term 2 the last cell is the column's argument over its entries, which do not depend on the column's own indeterminate,
 -- so the bound is that of the column's kind.
 use mathlib.Core.Path.{_≡_, refl, ap, sym, _∙_, subst}
 use mathlib.Core.Logic.{_≢_}
 use mathlib.Core.Bool.{false}
 use mathlib.Core.List.{List, [], _∷_, map}
-use Prim.Native.Nat.{ℕ, suc, _+_, _-_, _*_, _≤_, _<_}
+use Prim.Native.Nat.{ℕ, suc, _-_, _*_, _≤_, _<_}
 use native.Mathlib.Omega.{arith}
 use lib.Dec.{eqb}
 use lib.ListN.{length}
 use borrow.Author.Tests.{eqb-false, eq-eqb, ne-eqb}
 use Rattle.algebra.specs.Polynomial.{All, Distinct}
-use Rattle.field.specs.Element.{Canonical, elementAt}
+use Rattle.field.specs.Element.{Canonical}
 use Rattle.field.specs.declared.XFieldElement.{XFieldElement}
 use Rattle.air.specs.ChallengeId.{SAMPLE-COUNT}
 use Rattle.challenges.specs.Derived.{challengeAt}
 use Rattle.cross_table_argument.specs.CrossTable.{evaluationArgument, permutationArgument}
 use Rattle.processor_table.specs.Rows.{rows}
-use Rattle.processor_entries.specs.Columns.{Column, Kind, evaluation, product, lookup, kindOf, Entry, indeterminateOf, weightsOf, weights, entries, argument, running, cell}
-use Rattle.processor_entries.specs.AuxRow.{placeOf}
+use Rattle.processor_entries.specs.Columns.{Column, Kind, evaluation, product, lookup, kindOf, Entry, indeterminateOf, weightsOf, weights, entries, argument}
 use Rattle.soundness.specs.Term3.{put, entriesOf, Ends, Differ, bound, Term3}
 use Rattle.soundness.proofs.Lists.{All-imply, All-both, map-same}
 use Rattle.soundness.proofs.Columns.{all-sampled}
 use Rattle.soundness.proofs.Counting.{evaluation-bound, product-bound, lookup-bound}
 use Rattle.extension_answer.proofs.Accepted.{Accepted, passed}
-use Rattle.processor.proofs.Written.{written}
-use Rattle.soundness.proofs.Cells.{cell-at}
+use Rattle.soundness.proofs.Term2.{term2}
 use Rattle.field.proofs.Units.{element-canonical}
 use Rattle.soundness.proofs.Canonical.{Words, words-below, CanonicalEntry, entries-canonical}
 use Rattle.soundness.proofs.Denominators.{DefinedAt, all-defined}
@@ -61,8 +59,8 @@ module _ (c : Column) (sampled : ℕ → XFieldElement) (x : XFieldElement) (mai
   tests = passed main (ends .challenges) (ends .chunk) (ends .aux) (ends .work) (ends .accepted)
 
   -- the column's argument over all entries
-  last-cell : cell c (ends .challenges) main (rows main - 1) ≡ argument (kindOf c) x (entriesOf c sampled main)
-  unfolding running
+  last-cell : argument (kindOf c) (challengeAt (ends .challenges) (indeterminateOf c)) (entries c (weights c (ends .challenges)) main (suc (rows main - 1)))
+      ≡ argument (kindOf c) x (entriesOf c sampled main)
   last-cell =
       ap (λ y. argument (kindOf c) y (entries c (weights c (ends .challenges)) main (suc (rows main - 1)))) own
       ∙ ap (λ ws. argument (kindOf c) x (entries c ws main (suc (rows main - 1)))) same-weights
@@ -76,8 +74,8 @@ module _ (c : Column) (sampled : ℕ → XFieldElement) (x : XFieldElement) (mai
         defined = subst (λ ws. DefinedAt (kindOf c) x (entries c ws main (rows main))) same-weights
             (subst (λ y. DefinedAt (kindOf c) y (entries c (weights c (ends .challenges)) main (rows main))) own
             (all-defined main (ends .challenges) c (tests .no-zero)));
-        value = sym last-cell ∙ sym (cell-at main (ends .challenges) c (rows main - 1) within)
-            ∙ ap (λ l. elementAt l ((rows main - 1) * 33 + placeOf c * 3)) (sym (written main (ends .challenges) (ends .chunk) (ends .aux) (ends .work) (ends .accepted)))
+        value = sym last-cell
+            ∙ sym (term2 .cells main (ends .challenges) (ends .chunk) (ends .aux) (ends .work) (ends .accepted) c (rows main - 1) within)
             ∙ ends .last;
       }
     where

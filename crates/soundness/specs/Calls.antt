@@ -1,7 +1,7 @@
--- Term 3 over calls of `extend`: what the function's own contract says of its slices.
+-- Terms 2 and 3 over calls of `extend`: what the function's own contract says of its slices.
 use mathlib.Core.Path.{_≡_}
 use mathlib.Core.List.{List}
-use Prim.Native.Nat.{ℕ, _+_, _-_, _*_, _≤_, _<_}
+use Prim.Native.Nat.{ℕ, suc, _+_, _-_, _*_, _≤_, _<_}
 use lib.ListN.{length}
 use contract.Lifetimes.{Lfts}
 use borrow.Fn.World.{ArgsD, ResD}
@@ -15,7 +15,7 @@ use Rattle.refusal.specs.declared.Answer.the-variants.{Done}
 use Rattle.air.specs.ChallengeId.{SAMPLE-COUNT}
 use Rattle.challenges.specs.Derived.{challengeAt}
 use Rattle.processor_table.specs.Rows.{rows}
-use Rattle.processor_entries.specs.Columns.{Column, kindOf, indeterminateOf}
+use Rattle.processor_entries.specs.Columns.{Column, kindOf, indeterminateOf, weights, entries, argument}
 use Rattle.processor_entries.specs.AuxRow.{placeOf}
 use Rattle.processor.proofs.extend.{signature}
 use Rattle.processor.proofs.extend.Kinds as kinds
@@ -43,3 +43,12 @@ Term3OfCalls =
     → (xs : List XFieldElement) → Distinct xs
     → All (λ x. (v : XFieldElement) × Call c sampled x main₁ v × Call c sampled x main₂ v) xs
     → length xs ≤ bound (kindOf c) (length (entriesOf c sampled main₁)) (length (entriesOf c sampled main₂))
+
+-- term 2, for calls: where one answers Done, each cell that it leaves
+abbrev pub Term2OfCalls : Type 0
+Term2OfCalls =
+    (lifetimes : Lfts 4) (arguments : ArgsD signature lifetimes) (answer : ResD signature lifetimes) (left : AtExit (endedOf 4 kinds.ps kinds.r) lifetimes)
+    → Learnt lifetimes arguments answer left → answer ≡ Done
+    → (c : Column) (r : ℕ) → r < rows (now (arguments .0))
+    → elementAt (now (left .1 .1 .1 .0)) (r * 33 + placeOf c * 3)
+    ≡ argument (kindOf c) (challengeAt (now (arguments .1 .0)) (indeterminateOf c)) (entries c (weights c (now (arguments .1 .0))) (now (arguments .0)) (suc r))
