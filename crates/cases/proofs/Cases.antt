@@ -10,10 +10,19 @@ use Rattle.cross_table_argument.specs.CrossTable.{evaluation, runningProduct, r
 use Rattle.processor_entries.specs.Row.{weigh}
 use Rattle.processor_entries.specs.Entries.{inputEntries, outputEntries, instructionEntries, opStackEntries, ramEntries, ramAccesses, accessesFrom, jumpStackEntries, hashInputEntries, hashDigestEntries, spongeEntries, u32Lookups, u32Entries, clockEntries}
 use Rattle.processor_entries.specs.Columns.{rowEntries, entries, running}
+use Rattle.processor_entries.specs.AuxRow.{placed, auxRow}
+use Rattle.base_field.specs.Words.{allBelow}
+use Rattle.processor_table.specs.Rows.{rowsFrom}
+use Rattle.processor_entries.specs.Contribution.{hasZero}
+use Rattle.processor_entries.specs.Denominators.{zeroUpTo}
+use Rattle.auxiliary_table.specs.Extended.{extended}
+use Rattle.extension_answer.specs.Answer.{extendAnswer}
+use Rattle.processor.specs.Extend.{extendAux}
 use Rattle.cases.specs.Cases.{Cases}
+use Rattle.cases.proofs.Different.{different}
 
 pub cases : Cases
-unfolding sum difference product scale inverse plain.sum plain.difference plain.product plain.scale plain.cofactor plain.norm plain.inverse base.inverse power decoded lookupTable evaluation runningProduct runningSum weigh inputEntries outputEntries instructionEntries opStackEntries ramEntries ramAccesses accessesFrom jumpStackEntries hashInputEntries hashDigestEntries spongeEntries u32Lookups u32Entries clockEntries rowEntries entries running
+unfolding zeroUpTo hasZero allBelow rowsFrom placed auxRow extended extendAnswer extendAux sum difference product scale inverse plain.sum plain.difference plain.product plain.scale plain.cofactor plain.norm plain.inverse base.inverse power decoded lookupTable evaluation runningProduct runningSum weigh inputEntries outputEntries instructionEntries opStackEntries ramEntries ramAccesses accessesFrom jumpStackEntries hashInputEntries hashDigestEntries spongeEntries u32Lookups u32Entries clockEntries rowEntries entries running
 cases =
     record {
       x-times-x² = refl;
@@ -27,10 +36,12 @@ cases =
       byte-1 = refl;
       byte-6 = refl;
       byte-255 = refl;
+      all-different = different;
       input-cell = refl;
       output-cell = refl;
       input-0 = refl;
       input-6 = refl;
       xor-enters = refl;
+      xor-cell = refl;
       example-cells = refl;
     }

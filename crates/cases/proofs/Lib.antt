@@ -1,2 +1,3 @@
 -- The table's proof.
+pub mod Different
 pub mod Cases

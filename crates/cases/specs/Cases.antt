@@ -1,19 +1,22 @@
 -- Document 01's values to hold, those marked P, over the definitions that the contracts cite.
 use mathlib.Core.Path.{_≡_}
 use mathlib.Core.List.{[], _∷_, map}
-use Prim.Native.Nat.{_-_}
+use Prim.Native.Nat.{_+_, _-_, _*_}
 use lib.ListN.{getD}
 use Rattle.algebra.specs.Modulus as base
 use Rattle.algebra.specs.Modulus.{p}
-use Rattle.field.specs.Element.{X, lift, product, inverse}
+use Rattle.algebra.specs.Polynomial.{Distinct}
+use Rattle.field.specs.Element.{X, lift, difference, product, inverse}
 use Rattle.decoding.specs.Decode.{decoded}
 use Rattle.decoding.specs.declared.Decoded.the-variants.{Read, Nothing}
 use Rattle.isa.specs.declared.Instruction.the-variants.{ReadIo}
 use Rattle.tip5.specs.LookupTable.{lookupTable}
-use Rattle.cross_table_argument.specs.CrossTable.{evaluationArgument}
-use Rattle.processor_entries.specs.Entries.{inputEntries, outputEntries, u32Lookups}
-use Rattle.processor_entries.specs.Columns.{columns, cell}
-use Rattle.cases.specs.Tables.{row, prev, with-ci, example, twos}
+use Rattle.air.specs.Count.{upTo}
+use Rattle.air.specs.ChallengeId.{COUNT}
+use Rattle.challenges.specs.Derived.{challengeAt}
+use Rattle.processor_entries.specs.Entries.{u32Lookups}
+use Rattle.processor_entries.specs.Columns.{Column, input, output, u32, columns, cell}
+use Rattle.cases.specs.Tables.{row, window, example, twos, ten, written}
 
 pub record Cases : Type 0 where
   pub x-times-x² : product X (product X X) ≡ record { c0 = p - 1; c1 = 1; c2 = 0 }
@@ -27,14 +30,20 @@ pub record Cases : Type 0 where
   pub byte-1 : getD lookupTable 1 0 ≡ 7
   pub byte-6 : getD lookupTable 6 0 ≡ 85
   pub byte-255 : getD lookupTable 255 0 ≡ 255
+  -- the challenges of the next five, so that a cell under another column's challenge would show
+  pub all-different : (c : Column) → Distinct (map (challengeAt (ten c)) (upTo COUNT))
   -- indeterminate 10, previous CI 73, NIA 2, current ST0 5, ST1 7
-  pub input-cell : evaluationArgument (lift 10) (inputEntries (prev 73 2) (row (5 ∷ 7 ∷ []))) ≡ lift 175
+  pub input-cell : written input 0 (window 73 2 [] (5 ∷ 7 ∷ [])) ≡ lift 175
   -- CI 19, NIA 2, previous ST0 5, ST1 7
-  pub output-cell : evaluationArgument (lift 10) (outputEntries (prev 19 2) (row [])) ≡ lift 157
-  pub input-0 : evaluationArgument (lift 10) (inputEntries (prev 73 0) (row (5 ∷ 7 ∷ []))) ≡ lift 1
-  pub input-6 : evaluationArgument (lift 10) (inputEntries (prev 73 6) (row (5 ∷ 7 ∷ []))) ≡ lift 1
-  -- Xor 6, 3, result 5
-  pub xor-enters : u32Lookups (with-ci 22 (row (6 ∷ 3 ∷ []))) (row (5 ∷ [])) ≡ (6 ∷ 3 ∷ 14 ∷ 2 ∷ []) ∷ []
+  pub output-cell : written output 1 (window 19 2 (5 ∷ 7 ∷ []) []) ≡ lift 157
+  -- CI 73 with NIA 0 or 6
+  pub input-0 : written input 0 (window 73 0 [] (5 ∷ 7 ∷ [])) ≡ lift 1
+  pub input-6 : written input 0 (window 73 6 [] (5 ∷ 7 ∷ [])) ≡ lift 1
+  -- Xor 6, 3, result 5 enters And, 14, with 2; the weights are challenges 55 to 58
+  pub xor-enters : u32Lookups (window 22 0 (6 ∷ 3 ∷ []) []) (row (5 ∷ [])) ≡ (6 ∷ 3 ∷ 14 ∷ 2 ∷ []) ∷ []
+  pub xor-cell :
+      written u32 9 (window 22 0 (6 ∷ 3 ∷ []) (5 ∷ []))
+      ≡ inverse (difference (lift 10) (lift (155 * 6 + 156 * 3 + 157 * 14 + 158 * 2)))
   -- the example of the program `terminals`: the last row's eleven cells
   pub example-cells :
       map (λ c. cell c twos example 1) columns

@@ -1,28 +1,42 @@
--- Small rows and tables for the cases.
-use mathlib.Core.List.{List, [], _∷_, _++_}
-use Prim.Native.Nat.{ℕ, zero, suc, _-_}
+-- Small tables and records of challenges for the cases.
+use mathlib.Core.Bool.{cond}
+use mathlib.Core.List.{List, [], _∷_, _++_, map}
+use Prim.Native.Nat.{ℕ, _+_, _-_, _*_}
+use lib.Dec.{eqb}
 use lib.ListN.{length, replicate, set}
+use Rattle.field.specs.Element.{elementAt}
+use Rattle.field.specs.declared.XFieldElement.{XFieldElement}
+use Rattle.air.specs.Count.{upTo}
+use Rattle.air.specs.ChallengeId.{COUNT}
 use Rattle.air.specs.MainColumn.{CLK, IS-PADDING, CI, NIA, CLOCK-JUMP-DIFFERENCE-LOOKUP-MULTIPLICITY}
+use Rattle.processor_entries.specs.Columns.{Column, indeterminateOf}
+use Rattle.processor.specs.Extend.{extendAux}
 
 -- a row of zeros but for its stack from ST0 on
 abbrev pub row : List ℕ → List ℕ
 row stack = replicate 15 0 ++ stack ++ replicate (24 - length stack) 0
 
-abbrev pub with-ci : ℕ → List ℕ → List ℕ
-with-ci ci r = set r CI ci
-
--- CI, NIA, ST0 5 and ST1 7
-abbrev pub prev : ℕ → ℕ → List ℕ
-prev ci nia = set (with-ci ci (row (5 ∷ 7 ∷ []))) NIA nia
+-- two rows: CI, NIA and stack of the previous one, stack of the current one
+abbrev pub window : ℕ → ℕ → List ℕ → List ℕ → List ℕ
+window ci nia prev curr = set (set (row prev) CI ci) NIA nia ++ row curr
 
 -- one row of zeros, padded to two
 abbrev pub example : List ℕ
 example = row [] ++ set (set (set (row []) CLK 1) IS-PADDING 1) CLOCK-JUMP-DIFFERENCE-LOOKUP-MULTIPLICITY 1
 
-abbrev pub elements : ℕ → List ℕ
-elements zero = []
-elements (suc n) = 2 ∷ 0 ∷ 0 ∷ elements n
+-- each word as an element
+abbrev pub elements : List ℕ → List ℕ
+elements [] = []
+elements (w ∷ ws) = w ∷ 0 ∷ 0 ∷ elements ws
 
 -- 63 challenges, each (2, 0, 0)
 abbrev pub twos : List ℕ
-twos = elements 63
+twos = elements (replicate COUNT 2)
+
+-- 63 challenges, no two the same: the column's own indeterminate is 10, any other challenge i is 100 + i
+abbrev pub ten : Column → List ℕ
+ten c = elements (map (λ i. cond (eqb i (indeterminateOf c)) 10 (100 + i)) (upTo COUNT))
+
+-- what extension under these challenges leaves in row 1 of two rows, at the column's place
+abbrev pub written : Column → ℕ → List ℕ → XFieldElement
+written c place table = elementAt (extendAux table (ten c) 4 (replicate 66 0) (replicate 12 0)) (33 + place * 3)

@@ -51,7 +51,7 @@ use Rattle.batch_reader.specs.declared.OpenAnswer.{OpenAnswer}
 use Rattle.batch_reader.specs.declared.OpenAnswer.the-variants as open-answer
 use Rattle.batch.specs.Open as batch
 use Rattle.batch.specs.Open.{openNumber, openAnswer, openSlice}
-use Rattle.abi_answers.specs.Field.{isWord, isElement, baseWritten, elementWritten, elementNumberInto, elementInto, elementNumber, elementOut}
+use Rattle.abi_answers.specs.Field.{isWord, isElement, baseWritten, elementWritten, elementNumberInto, elementInto, unaryNumber, unaryOut}
 use Rattle.abi_answers.specs.Open.{openInto, countsInto}
 use Rattle.soundness.specs.Term1.{_∈_, Answers, OnWords, OnElement, OnElements, Scans, Term1}
 use Rattle.soundness.proofs.Tests.{every, and-both}
@@ -130,7 +130,7 @@ on-elements : {line : List ℕ} (f : XFieldElement → XFieldElement → Element
     → ((d e : XFieldElement) → answers.elementNumber (f d e) ∈ 0 ∷ line) → OnElements line f
 on-elements f t fixed a b out =
     let g = f (elementAt a 0) in
-    guarded (isElement a) (elementNumber g b out) (elementOut g b out) out t (on-element g t (fixed (elementAt a 0)) b out)
+    guarded (isElement a) (unaryNumber g b out) (unaryOut g b out) out t (on-element g t (fixed (elementAt a 0)) b out)
 
 -- a word not below p brings 2
 base-checked : {line : List ℕ} (below : Bool) (answer : BaseAnswer) → T (stands line 2) → baseNumber answer ∈ 0 ∷ line → baseNumber (baseChecked below answer) ∈ 0 ∷ line

@@ -21,7 +21,7 @@ use Rattle.extension_answer.specs.Answer.{extendAnswer}
 use Rattle.processor.specs.Extend.{extendAux, extendWork}
 use Rattle.batch_commands.specs.Format.{ROW, OP-STACK, RAM, JUMP-STACK, SAMPLED, DIGEST, INPUT, OUTPUT}
 use Rattle.batch.specs.Open.{openNumber, openSlice}
-use Rattle.abi_answers.specs.Field.{baseNumberInto, baseInto, elementNumber, elementOut, elementNumber2, elementOut2}
+use Rattle.abi_answers.specs.Field.{baseNumberInto, baseInto, unaryNumber, unaryOut, binaryNumber, binaryOut}
 use Rattle.abi_answers.specs.Decode.{decodeNumberInto, decodeInto}
 use Rattle.abi_answers.specs.Open.{openInto, countsInto}
 
@@ -40,10 +40,10 @@ abbrev pub OnWords : List ℕ → BaseAnswer → Type 0
 OnWords line answer = (out : List ℕ) → Answers line (baseNumberInto out answer) (baseInto out answer ≡ out)
 
 abbrev pub OnElement : List ℕ → (XFieldElement → ElementAnswer) → Type 0
-OnElement line f = (a out : List ℕ) → Answers line (elementNumber f a out) (elementOut f a out ≡ out)
+OnElement line f = (a out : List ℕ) → Answers line (unaryNumber f a out) (unaryOut f a out ≡ out)
 
 abbrev pub OnElements : List ℕ → (XFieldElement → XFieldElement → ElementAnswer) → Type 0
-OnElements line f = (a b out : List ℕ) → Answers line (elementNumber2 f a b out) (elementOut2 f a b out ≡ out)
+OnElements line f = (a b out : List ℕ) → Answers line (binaryNumber f a b out) (binaryOut f a b out ≡ out)
 
 -- a scan of items of `width` words, in place
 abbrev pub Scans : List ℕ → ℕ → (List ℕ → List ℕ) → Type 0
