@@ -2,7 +2,7 @@
 use mathlib.Core.Path.{_≡_}
 use mathlib.Core.List.{[], _∷_, map}
 use Prim.Native.Nat.{_+_, _-_, _*_}
-use lib.ListN.{getD}
+use lib.ListN.{drop, getD}
 use Rattle.algebra.specs.Modulus as base
 use Rattle.algebra.specs.Modulus.{p}
 use Rattle.algebra.specs.Polynomial.{Distinct}
@@ -14,9 +14,10 @@ use Rattle.tip5.specs.LookupTable.{lookupTable}
 use Rattle.air.specs.Count.{upTo}
 use Rattle.air.specs.ChallengeId.{COUNT}
 use Rattle.challenges.specs.Derived.{challengeAt}
+use Rattle.processor_table.specs.Rows.{rowAt}
 use Rattle.processor_entries.specs.Entries.{u32Lookups}
-use Rattle.processor_entries.specs.Columns.{Column, input, output, u32, columns, cell}
-use Rattle.cases.specs.Tables.{row, window, example, twos, ten, written}
+use Rattle.processor_entries.specs.Columns.{Column, input, output, u32}
+use Rattle.cases.specs.Tables.{window, xor, example, elements, twos, ten, extension, written}
 
 pub record Cases : Type 0 where
   pub x-times-x² : product X (product X X) ≡ record { c0 = p - 1; c1 = 1; c2 = 0 }
@@ -30,7 +31,7 @@ pub record Cases : Type 0 where
   pub byte-1 : getD lookupTable 1 0 ≡ 7
   pub byte-6 : getD lookupTable 6 0 ≡ 85
   pub byte-255 : getD lookupTable 255 0 ≡ 255
-  -- the challenges of the next five, so that a cell under another column's challenge would show
+  -- so that a cell under another column's challenge shows
   pub all-different : (c : Column) → Distinct (map (challengeAt (ten c)) (upTo COUNT))
   -- indeterminate 10, previous CI 73, NIA 2, current ST0 5, ST1 7
   pub input-cell : written input 0 (window 73 2 [] (5 ∷ 7 ∷ [])) ≡ lift 175
@@ -39,12 +40,10 @@ pub record Cases : Type 0 where
   -- CI 73 with NIA 0 or 6
   pub input-0 : written input 0 (window 73 0 [] (5 ∷ 7 ∷ [])) ≡ lift 1
   pub input-6 : written input 0 (window 73 6 [] (5 ∷ 7 ∷ [])) ≡ lift 1
-  -- Xor 6, 3, result 5 enters And, 14, with 2; the weights are challenges 55 to 58
-  pub xor-enters : u32Lookups (window 22 0 (6 ∷ 3 ∷ []) []) (row (5 ∷ [])) ≡ (6 ∷ 3 ∷ 14 ∷ 2 ∷ []) ∷ []
-  pub xor-cell :
-      written u32 9 (window 22 0 (6 ∷ 3 ∷ []) (5 ∷ []))
-      ≡ inverse (difference (lift 10) (lift (155 * 6 + 156 * 3 + 157 * 14 + 158 * 2)))
+  -- Xor 6, 3, result 5 enters And, 14, with 2; its weights are challenges 55 to 58
+  pub xor-enters : u32Lookups (rowAt xor 0) (rowAt xor 1) ≡ (6 ∷ 3 ∷ 14 ∷ 2 ∷ []) ∷ []
+  pub xor-cell : written u32 9 xor ≡ inverse (difference (lift 10) (lift (155 * 6 + 156 * 3 + 157 * 14 + 158 * 2)))
   -- the example of the program `terminals`: the last row's eleven cells
   pub example-cells :
-      map (λ c. cell c twos example 1) columns
-      ≡ lift 1 ∷ lift 1 ∷ lift 9223372034707292161 ∷ lift 1 ∷ lift 1 ∷ lift 0 ∷ lift 1 ∷ lift 1 ∷ lift 1 ∷ lift 0 ∷ lift 1 ∷ []
+      drop 33 (extension twos example)
+      ≡ elements (1 ∷ 1 ∷ 9223372034707292161 ∷ 1 ∷ 1 ∷ 0 ∷ 1 ∷ 1 ∷ 1 ∷ 0 ∷ 1 ∷ [])

@@ -20,6 +20,10 @@ row stack = replicate 15 0 ++ stack ++ replicate (24 - length stack) 0
 abbrev pub window : ℕ → ℕ → List ℕ → List ℕ → List ℕ
 window ci nia prev curr = set (set (row prev) CI ci) NIA nia ++ row curr
 
+-- Xor of 6 and 3, result 5
+abbrev pub xor : List ℕ
+xor = window 22 0 (6 ∷ 3 ∷ []) (5 ∷ [])
+
 -- one row of zeros, padded to two
 abbrev pub example : List ℕ
 example = row [] ++ set (set (set (row []) CLK 1) IS-PADDING 1) CLOCK-JUMP-DIFFERENCE-LOOKUP-MULTIPLICITY 1
@@ -37,6 +41,10 @@ twos = elements (replicate COUNT 2)
 abbrev pub ten : Column → List ℕ
 ten c = elements (map (λ i. cond (eqb i (indeterminateOf c)) 10 (100 + i)) (upTo COUNT))
 
--- what extension under these challenges leaves in row 1 of two rows, at the column's place
+-- what extension of two rows leaves in the auxiliary table
+abbrev pub extension : List ℕ → List ℕ → List ℕ
+extension challenges table = extendAux table challenges 4 (replicate 66 0) (replicate 12 0)
+
+-- and in row 1 at a column's place, under the column's indeterminate 10
 abbrev pub written : Column → ℕ → List ℕ → XFieldElement
-written c place table = elementAt (extendAux table (ten c) 4 (replicate 66 0) (replicate 12 0)) (33 + place * 3)
+written c place table = elementAt (extension (ten c) table) (33 + place * 3)

@@ -88,16 +88,18 @@ abbrev Listed : List ℕ → Tests → Type 0
 Listed line ts = T (every (λ t. stands line (numberOf (t .1))) ts)
 
 -- tests in their order, each with its refusal, and what is answered past them
-module _ {A : Type 0} (refuse : Refusal → A) (number : A → ℕ) (numbered : (r : Refusal) → number (refuse r) ≡ numberOf r) where
-  abbrev chain : Tests → A → A
-  chain [] last = last
-  chain (t ∷ ts) last = cond (t .0) (refuse (t .1)) (chain ts last)
+abbrev chain : {A : Type 0} → (Refusal → A) → Tests → A → A
+chain refuse [] last = last
+chain refuse (t ∷ ts) last = cond (t .0) (refuse (t .1)) (chain refuse ts last)
 
-  by-tests : {line : List ℕ} (ts : Tests) → Listed line ts → (last : A) → number last ∈ 0 ∷ line → number (chain ts last) ∈ 0 ∷ line
-  by-tests [] l last f = f
-  by-tests {line} (t ∷ ts) l last f =
-      let both = and-both (stands line (numberOf (t .1))) (every (λ u. stands line (numberOf (u .1))) ts) l in
-      chosen number (t .0) (refuse (t .1)) (chain ts last) (rw (numbered (t .1)) (listed (t .1) (both .0))) (by-tests ts (both .1) last f)
+by-tests : {A : Type 0} {line : List ℕ} (refuse : Refusal → A) (number : A → ℕ) → ((r : Refusal) → number (refuse r) ≡ numberOf r)
+    → (ts : Tests) → Listed line ts → (last : A) → number last ∈ 0 ∷ line → number (chain refuse ts last) ∈ 0 ∷ line
+by-tests refuse number numbered [] l last f = f
+by-tests {line} refuse number numbered (t ∷ ts) l last f =
+    let both = and-both (stands line (numberOf (t .1))) (every (λ u. stands line (numberOf (u .1))) ts) l in
+    chosen number (t .0) (refuse (t .1)) (chain refuse ts last)
+    (rw (numbered (t .1)) (listed (t .1) (both .0)))
+    (by-tests refuse number numbered ts (both .1) last f)
 
 -- past a success nothing is asked of the slices
 done : {line : List ℕ} {unchanged : Type 0} → Answers line 0 unchanged
@@ -145,7 +147,7 @@ decode-kept (decode-answer.Row d) f out = done
 decode-kept (decode-answer.Refused r) f out = record { fixed = f; kept = λ ne. refl }
 
 -- operations that answer `Answer`
-by-refusals : {line : List ℕ} (ts : Tests) → Listed line ts → answerNumberOf (chain Refused answerNumberOf (λ r. refl) ts Done) ∈ 0 ∷ line
+by-refusals : {line : List ℕ} (ts : Tests) → Listed line ts → answerNumberOf (chain Refused ts Done) ∈ 0 ∷ line
 by-refusals ts l = by-tests Refused answerNumberOf (λ r. refl) ts l Done zero-listed
 
 on-done : {line : List ℕ} (answer : Answer) → answerNumberOf answer ∈ 0 ∷ line → (result slice : List ℕ)
