@@ -1,6 +1,7 @@
 // The field of the p^3 elements. A public operation turns away a word that is not below p.
 use base_field::P;
 use refusal::Refusal;
+ghost use mathlib.Core.Bool.{_&&_};
 ghost use mathlib.Core.Path.{_≡_};
 ghost use mathlib.Core.List.{[], _∷_};
 ghost use Rattle.field.specs.Element.{canonical, isZero, zero, one, X};
@@ -64,6 +65,12 @@ pub fn is_canonical(e: XFieldElement) -> bool
     true
 }
 
+fn both_canonical(a: XFieldElement, b: XFieldElement) -> bool
+    ensures { λ r. ⌜ r ≡ canonical a && canonical b ⌝ }
+{
+    is_canonical(a) && is_canonical(b)
+}
+
 pub fn is_zero(e: XFieldElement) -> bool
     ensures { λ r. ⌜ r ≡ isZero e ⌝ }
 {
@@ -82,10 +89,7 @@ pub fn is_zero(e: XFieldElement) -> bool
 pub fn element_add(a: XFieldElement, b: XFieldElement) -> ElementAnswer
     ensures { λ r. ⌜ r ≡ elementAdd a b ⌝ }
 {
-    if !is_canonical(a) {
-        return ElementAnswer::Refused(Refusal::WordNotBelowP);
-    }
-    if !is_canonical(b) {
+    if !both_canonical(a, b) {
         return ElementAnswer::Refused(Refusal::WordNotBelowP);
     }
     ElementAnswer::Element(unchecked::element_add(a, b))
@@ -94,10 +98,7 @@ pub fn element_add(a: XFieldElement, b: XFieldElement) -> ElementAnswer
 pub fn element_sub(a: XFieldElement, b: XFieldElement) -> ElementAnswer
     ensures { λ r. ⌜ r ≡ elementSub a b ⌝ }
 {
-    if !is_canonical(a) {
-        return ElementAnswer::Refused(Refusal::WordNotBelowP);
-    }
-    if !is_canonical(b) {
+    if !both_canonical(a, b) {
         return ElementAnswer::Refused(Refusal::WordNotBelowP);
     }
     ElementAnswer::Element(unchecked::element_sub(a, b))
@@ -106,10 +107,7 @@ pub fn element_sub(a: XFieldElement, b: XFieldElement) -> ElementAnswer
 pub fn element_mul(a: XFieldElement, b: XFieldElement) -> ElementAnswer
     ensures { λ r. ⌜ r ≡ elementMul a b ⌝ }
 {
-    if !is_canonical(a) {
-        return ElementAnswer::Refused(Refusal::WordNotBelowP);
-    }
-    if !is_canonical(b) {
+    if !both_canonical(a, b) {
         return ElementAnswer::Refused(Refusal::WordNotBelowP);
     }
     ElementAnswer::Element(unchecked::element_mul(a, b))

@@ -1,48 +1,25 @@
--- The two tests in order.
+-- Both operands are tested, then the operation's answer.
 use borrow.Author.Needs.{needs}
 use borrow.Author.Tests.{not-true, not-false}
 use mathlib.Core.Path.{sym, _∙_}
+use Rattle.base_field.proofs.Below.{and-true}
 use Rattle.field.proofs.Below.{canonical-true}
 use Rattle.field.proofs.element_sub.Statement.{statement}
 use Rattle.field.proofs.element_sub.Tie as tie
 
-is-canonical-requires : tie.Need-is-canonical-requires
-is-canonical-requires c κs = search needs
+both-canonical-requires : tie.Need-both-canonical-requires
+both-canonical-requires c κs = search needs
 
 returns : tie.Need-returns
-returns c = rw (sym (c .before .is-canonical .ensures) ∙ not-true _ (c .if1 .taken))
-
-is-canonical-requires-2 : tie.Need-is-canonical-requires-2
-is-canonical-requires-2 c κs = search needs
-
-returns-2 : tie.Need-returns-2
-returns-2 c =
-    rw (
-      sym (c .before .before .before .is-canonical .ensures) ∙ not-false _ (c .before .before .if1 .left),
-      sym (c .before .is-canonical2 .ensures) ∙ not-true _ (c .if2 .taken),
-    )
+returns c = rw (sym (c .before .both-canonical .ensures) ∙ not-true _ (c .if1 .taken))
 
 element-sub-requires : tie.Need-element-sub-requires
-element-sub-requires c κs = (
-  canonical-true _ (sym (c .before .before .before .is-canonical .ensures) ∙ not-false _ (c .before .before .if1 .left)),
-  canonical-true _ (sym (c .before .is-canonical2 .ensures) ∙ not-false _ (c .if2 .left)),
-)
+element-sub-requires c κs =
+    let both = and-true _ _ (sym (c .before .both-canonical .ensures) ∙ not-false _ (c .if1 .left)) in
+    (canonical-true _ (both .0), canonical-true _ (both .1))
 
-returns-3 : tie.Need-returns-3
-returns-3 c =
-    rw (
-      sym (c .before .before .before .before .is-canonical .ensures) ∙ not-false _ (c .before .before .before .if1 .left),
-      sym (c .before .before .is-canonical2 .ensures) ∙ not-false _ (c .before .if2 .left),
-      c .element-sub .ensures,
-    )
+returns-2 : tie.Need-returns-2
+returns-2 c = rw (sym (c .before .before .both-canonical .ensures) ∙ not-false _ (c .before .if1 .left), c .element-sub .ensures)
 
 pub element-sub-spec : {M : Type 1} → statement M
-element-sub-spec =
-    tie.close
-    (tie.spec
-    is-canonical-requires
-    returns
-    is-canonical-requires-2
-    returns-2
-    element-sub-requires
-    returns-3)
+element-sub-spec = tie.close (tie.spec both-canonical-requires returns element-sub-requires returns-2)

@@ -1,0 +1,20 @@
+-- The second operand is tested where the first one passes.
+use borrow.Author.Needs.{needs}
+use mathlib.Core.Path.{sym, _∙_}
+use Rattle.field.proofs.both_canonical.Statement.{statement}
+use Rattle.field.proofs.both_canonical.Tie as tie
+
+is-canonical-requires : tie.Need-is-canonical-requires
+is-canonical-requires c κs = search needs
+
+is-canonical-requires-2 : tie.Need-is-canonical-requires-2
+is-canonical-requires-2 c κs = search needs
+
+returns : tie.Need-returns
+returns c = rw (sym (c .before .before .is-canonical .ensures) ∙ c .before .if1 .taken) (c .is-canonical2 .ensures)
+
+returns-2 : tie.Need-returns-2
+returns-2 c = rw (sym (c .before .is-canonical .ensures) ∙ c .if1 .left) (c .if1 .left)
+
+pub both-canonical-spec : {M : Type 1} → statement M
+both-canonical-spec = tie.close (tie.spec is-canonical-requires is-canonical-requires-2 returns returns-2)
