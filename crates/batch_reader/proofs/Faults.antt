@@ -1,25 +1,29 @@
 -- What the tests of a command say, in their order, and what a step makes of them.
-use mathlib.Core.Path.{_≡_, refl, sym, _∙_}
-use mathlib.Core.Bool.{Bool, true, false, not, _&&_, _||_}
-use mathlib.Core.List.{List}
+use mathlib.Core.Path.{_≡_, refl}
+use mathlib.Core.Bool.{Bool, true, false, cond, not, _&&_, _||_}
+use mathlib.Core.List.{List, [], _∷_}
 use Prim.Native.Nat.{ℕ, _+_, _-_, _≤_, _<_}
-use native.Mathlib.Numerals.{add-one}
 use native.Mathlib.Omega.{arith}
 use lib.Dec.{eqb, ltb, leb}
-use lib.ListN.{length, take, drop, getD, length-drop}
-use lib.Seq.{drop-cons}
-use borrow.Author.Tests.{ltb-false, leb-false, eqb-true, eqb-false}
+use lib.ListN.{length, take, drop, getD}
+use borrow.Author.Tests.{ltb-false, leb-false, eqb-false}
 use Rattle.refusal.specs.declared.Answer.{Answer}
-use Rattle.refusal.specs.declared.Answer.the-variants.{Done, Refused}
-use Rattle.refusal.specs.declared.Refusal.{Refusal}
+use Rattle.refusal.specs.declared.Answer.the-variants as answer
+use Rattle.refusal.specs.declared.Answer.the-variants.{Done}
 use Rattle.refusal.specs.declared.Refusal.the-variants.{UnknownCommand, BatchCutOff, CommandOutOfPlace, RowCount}
 use Rattle.refusal.proofs.Answers.{or-false, past}
 use Rattle.batch_commands.specs.declared.Head.the-variants.{Unknown, CutOff, Whole}
 use Rattle.batch_commands.specs.Format.{END, TRACE-ROWS, width}
 use Rattle.batch_commands.specs.Fault.{limit, missing, outOfPlace, wrongRowCount, judged, fault, headOf}
-use Rattle.batch_commands.proofs.Heads.{headBy, head-there}
-use Rattle.batch_reader.specs.declared.Step.the-variants.{Stop, End, Next}
-use Rattle.batch_reader.specs.Reading.{stepBy, stepOf}
+use Rattle.batch_commands.proofs.Heads.{headBy}
+use Rattle.batch_reader.specs.declared.OpenAnswer.{OpenAnswer}
+use Rattle.batch_reader.specs.declared.OpenAnswer.the-variants.{Opened, Refused}
+use Rattle.batch_reader.specs.declared.Seen.{Seen}
+use Rattle.batch_reader.specs.declared.Step.the-variants.{Stop, Next}
+use Rattle.batch_reader.specs.Commands.{Command, counts}
+use Rattle.batch_reader.specs.Reading.{Reading, read, unless}
+use Rattle.batch_reader.specs.Answers.{countsIn, answerOf}
+use Rattle.batch_reader.specs.Steps.{stepBy, stepOf}
 
 pub record Placed (rows : ℕ) (came : List ℕ) (code : ℕ) (bytes : List ℕ) : Type 0 where
   pub known : code < 10
@@ -64,59 +68,43 @@ whole-by true short code k e = (cc, cc, cc)
 whole-by false true code k e = (cc, cc, cc)
 whole-by false false code k e = (refl, refl, cc)
 
-module _ (batch : List ℕ) (at : ℕ) (here : at < length batch) (rows : ℕ) (came : List ℕ) where
-  abbrev code : ℕ
-  code = getD batch at 0
-
-  abbrev unknown : Bool
-  unknown = ltb 9 code
-
-  abbrev short : Bool
-  short = ltb (length batch - (at + 1)) (width code)
-
-  pub step-there : stepOf rows came (drop at batch) ≡ stepBy (fault rows came code (drop (at + 1) batch)) code
-  step-there = rw (drop-cons batch at 0 here, add-one)
-
-  pub unknown-there : headOf (drop at batch) ≡ Unknown → stepOf rows came (drop at batch) ≡ Stop UnknownCommand
+-- what a head says of the step
+module _ (seen : Seen) where
+  pub unknown-step : (bytes : List ℕ) → headOf bytes ≡ Unknown → stepOf seen bytes ≡ Stop (Refused UnknownCommand)
   unfolding fault
-  unknown-there e = step-there ∙ rw (unknown-by unknown short code (sym (head-there batch at here) ∙ e))
+  unknown-step [] e = cc
+  unknown-step (code ∷ bytes) e = rw (unknown-by (ltb 9 code) (ltb (length bytes) (width code)) code e)
 
-  pub cut-off-there : headOf (drop at batch) ≡ CutOff → stepOf rows came (drop at batch) ≡ Stop BatchCutOff
+  pub cut-off-step : (bytes : List ℕ) → headOf bytes ≡ CutOff → stepOf seen bytes ≡ Stop (Refused BatchCutOff)
   unfolding fault
-  cut-off-there e =
-      let h = cut-off-by unknown short code (sym (head-there batch at here) ∙ e) in
-      step-there ∙ rw (h .0, length-drop (at + 1) batch, h .1)
+  cut-off-step [] e = refl
+  cut-off-step (code ∷ bytes) e = let h = cut-off-by (ltb 9 code) (ltb (length bytes) (width code)) code e in rw (h .0, h .1)
 
-  -- a command with its whole operand
-  pub whole-there : (k : ℕ) → headOf (drop at batch) ≡ Whole k → (k < 10) × (at + 1 + width k ≤ length batch) × (stepOf rows came (drop at batch) ≡ stepBy (judged rows came k (drop (at + 1) batch)) k)
+  pub whole-step : (bytes : List ℕ) (k : ℕ) → headOf bytes ≡ Whole k
+      → (k < 10) × (1 + width k ≤ length bytes) × (stepOf seen bytes ≡ stepBy (judged (seen .rows) (seen .came) k (drop 1 bytes)) k (seen .came))
   unfolding fault
-  whole-there k e =
-      let h = whole-by unknown short code k (sym (head-there batch at here) ∙ e) in
+  whole-step [] k e = let z : _≡_ {A = ℕ} 0 1 = cc in (omega arith, omega arith, cc)
+  whole-step (code ∷ bytes) k e =
+      let h = whole-by (ltb 9 code) (ltb (length bytes) (width code)) code k e in
       let known = ltb-false 9 code (h .0) in
-      let whole = ltb-false (length batch - (at + 1)) (width code) (h .1) in
-      rw (h .2) (omega arith, omega arith, step-there ∙ rw (h .0, length-drop (at + 1) batch, h .1))
+      let whole = ltb-false (length bytes) (width code) (h .1) in
+      rw (h .2) (omega arith, omega arith, rw (h .0, h .1))
 
--- a step that stops, or goes on
-stops : (answer : Answer) (code : ℕ) (last : Bool) (refusal : Refusal) → eqb code END ≡ last → stepBy answer code ≡ Stop refusal → answer ≡ Refused refusal
-stops (Refused r) code last refusal q e = cc
-stops Done code true refusal q e = let z : End ≡ Stop refusal = rw q at e in cc
-stops Done code false refusal q e = let z : Next code ≡ Stop refusal = rw q at e in cc
+-- a step that stops answers what the definition does
+stops : (answer : Answer) (code : ℕ) (last : Bool) (before : List Command) (next : Reading) (decided : OpenAnswer)
+    → eqb code END ≡ last → stepBy answer code (counts before) ≡ Stop decided → decided ≡ answerOf (unless answer (cond last (read before) next))
+stops (answer.Refused r) code last before next decided q e = cc
+stops Done code true before next decided q e = let z : Stop (Opened (countsIn (counts before))) ≡ Stop decided = rw q at e in cc
+stops Done code false before next decided q e = let z : Next code ≡ Stop decided = rw q at e in cc
 
-pub stopped : (answer : Answer) (code : ℕ) (refusal : Refusal) → stepBy answer code ≡ Stop refusal → answer ≡ Refused refusal
-stopped answer code refusal e = stops answer code (eqb code END) refusal refl e
+pub stopped : (answer : Answer) (code : ℕ) (before : List Command) (next : Reading) (decided : OpenAnswer)
+    → stepBy answer code (counts before) ≡ Stop decided → decided ≡ answerOf (unless answer (cond (eqb code END) (read before) next))
+stopped answer code before next decided e = stops answer code (eqb code END) before next decided refl e
 
-ends : (answer : Answer) (code : ℕ) (last : Bool) → eqb code END ≡ last → stepBy answer code ≡ End → (answer ≡ Done) × (code ≡ END)
-ends (Refused r) code last q e = (cc, let z : _≡_ {A = ℕ} 0 1 = cc in omega arith)
-ends Done code true q e = (refl, eqb-true code END q)
-ends Done code false q e = let z : Next code ≡ End = rw q at e in (refl, let z : _≡_ {A = ℕ} 0 1 = cc in omega arith)
+goes : (answer : Answer) (code k : ℕ) (came : List ℕ) (last : Bool) → eqb code END ≡ last → stepBy answer code came ≡ Next k → (answer ≡ Done) × (code ≡ k) × (code ≡ END → ⊥)
+goes (answer.Refused r) code k came last q e = let z : _≡_ {A = ℕ} 0 1 = cc in (cc, omega arith, λ _. omega arith)
+goes Done code k came true q e = let y : Stop (Opened (countsIn came)) ≡ Next k = rw q at e in let z : _≡_ {A = ℕ} 0 1 = cc in (refl, omega arith, λ _. omega arith)
+goes Done code k came false q e = let y : Next code ≡ Next k = rw q at e in (refl, cc, eqb-false code END q)
 
-pub ended : (answer : Answer) (code : ℕ) → stepBy answer code ≡ End → (answer ≡ Done) × (code ≡ END)
-ended answer code e = ends answer code (eqb code END) refl e
-
-goes : (answer : Answer) (code k : ℕ) (last : Bool) → eqb code END ≡ last → stepBy answer code ≡ Next k → (answer ≡ Done) × (code ≡ k) × (code ≡ END → ⊥)
-goes (Refused r) code k last q e = let z : _≡_ {A = ℕ} 0 1 = cc in (cc, omega arith, λ _. omega arith)
-goes Done code k true q e = let y : End ≡ Next k = rw q at e in let z : _≡_ {A = ℕ} 0 1 = cc in (refl, omega arith, λ _. omega arith)
-goes Done code k false q e = let y : Next code ≡ Next k = rw q at e in (refl, cc, eqb-false code END q)
-
-pub went : (answer : Answer) (code k : ℕ) → stepBy answer code ≡ Next k → (answer ≡ Done) × (code ≡ k) × (code ≡ END → ⊥)
-went answer code k e = goes answer code k (eqb code END) refl e
+pub went : (answer : Answer) (code k : ℕ) (came : List ℕ) → stepBy answer code came ≡ Next k → (answer ≡ Done) × (code ≡ k) × (code ≡ END → ⊥)
+went answer code k came e = goes answer code k came (eqb code END) refl e

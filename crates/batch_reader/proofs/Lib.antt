@@ -5,3 +5,4 @@ pub mod Readings
 pub mod Filling
 pub mod Bounds
 pub mod Reached
+pub mod Calling

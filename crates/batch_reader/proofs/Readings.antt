@@ -11,7 +11,6 @@ use lib.Seq.{drop-cons, drop-drop}
 use borrow.Author.Tests.{eq-eqb, ne-eqb}
 use Rattle.refusal.specs.declared.Answer.{Answer}
 use Rattle.refusal.specs.declared.Answer.the-variants.{Done, Refused}
-use Rattle.refusal.specs.declared.Refusal.{Refusal}
 use Rattle.refusal.specs.declared.Refusal.the-variants.{BatchCutOff}
 use Rattle.batch_commands.specs.Format.{END, width}
 use Rattle.batch_commands.specs.Fault.{fault}
@@ -38,7 +37,7 @@ pub at-start : (batch : List ℕ) → Along batch 0 []
 unfolding reading
 at-start batch = record { fuel = length batch; enough = omega arith; rest = refl }
 
-nothing-left : (fuel : ℕ) (before : List Command) → readFrom fuel before [] ≡ refused BatchCutOff
+pub nothing-left : (fuel : ℕ) (before : List Command) → readFrom fuel before [] ≡ refused BatchCutOff
 unfolding readFrom
 nothing-left zero before = refl
 nothing-left (suc n) before = refl
@@ -64,22 +63,22 @@ module _ (batch : List ℕ) (at : ℕ) (before : List Command) (a : Along batch 
   at-end h = a .rest ∙ rw (drop-of-length-le batch h) (nothing-left (a .fuel) before)
 
   module _ (here : at < length batch) where
-    pub refuses : (r : Refusal) → faultAt batch at before ≡ Refused r → reading batch ≡ refused r
-    refuses r e = a .rest ∙ step (a .fuel) batch at before (a .enough) here ∙ rw e
+    decides : reading batch ≡ unless (faultAt batch at before) (cond (eqb (getD batch at 0) END) (read before) (readFrom (a .fuel - 1) (before ++ (commandAt batch at ∷ [])) (drop (pastAt batch at) batch)))
+    decides = a .rest ∙ step (a .fuel) batch at before (a .enough) here
 
     pub ends : faultAt batch at before ≡ Done → getD batch at 0 ≡ END → reading batch ≡ read before
-    ends e q = a .rest ∙ step (a .fuel) batch at before (a .enough) here ∙ rw (e, eq-eqb (getD batch at 0) END q)
+    ends e q = decides ∙ rw (e, eq-eqb (getD batch at 0) END q)
 
     pub goes-on : faultAt batch at before ≡ Done → (getD batch at 0 ≡ END → ⊥) → Along batch (pastAt batch at) (before ++ (commandAt batch at ∷ []))
     goes-on e q =
         record {
           fuel = a .fuel - 1;
           enough = let h = a .enough in omega arith;
-          rest = a .rest ∙ step (a .fuel) batch at before (a .enough) here ∙ rw (e, ne-eqb (getD batch at 0) END q);
+          rest = decides ∙ rw (e, ne-eqb (getD batch at 0) END q);
         }
 
     pub passes : (ks : List Command) → reading batch ≡ read ks → faultAt batch at before ≡ Done
-    passes ks e = of-unless (faultAt batch at before) _ ks (sym (step (a .fuel) batch at before (a .enough) here) ∙ sym (a .rest) ∙ e) .0
+    passes ks e = of-unless (faultAt batch at before) _ ks (sym decides ∙ e) .0
 
 -- what holds before the commands and is kept by each holds of all
 module _ (P : List Command → Type 0)

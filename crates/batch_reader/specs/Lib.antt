@@ -2,3 +2,4 @@
 pub mod Commands
 pub mod Reading
 pub mod Answers
+pub mod Steps

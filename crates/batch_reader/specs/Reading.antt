@@ -10,8 +10,6 @@ use Rattle.refusal.specs.declared.Refusal.{Refusal}
 use Rattle.refusal.specs.declared.Refusal.the-variants.{BatchCutOff}
 use Rattle.batch_commands.specs.Format.{END, width}
 use Rattle.batch_commands.specs.Fault.{fault}
-use Rattle.batch_reader.specs.declared.Step.{Step}
-use Rattle.batch_reader.specs.declared.Step.the-variants.{Stop, End, Next}
 use Rattle.batch_reader.specs.Commands.{Command, count, counts, announced}
 
 -- the commands before 00, or the first fault
@@ -40,12 +38,3 @@ reading batch = readFrom (length batch) [] batch
 abbrev pub commandsOf : Reading → List Command
 commandsOf (read commands) = commands
 commandsOf (refused refusal) = []
-
--- what the first of the bytes comes to, as the code has it
-abbrev pub stepBy : Answer → ℕ → Step
-stepBy (Refused refusal) code = Stop refusal
-stepBy Done code = cond (eqb code END) End (Next code)
-
-abbrev pub stepOf : ℕ → List ℕ → List ℕ → Step
-stepOf rows came [] = Stop BatchCutOff
-stepOf rows came (code ∷ bytes) = stepBy (fault rows came code bytes) code

@@ -1,16 +1,18 @@
 // Reading a batch from left to right.
-use crate::opener::head_at;
+use crate::opener::Opener;
 use batch_commands::Head;
 use batch_commands::unchecked::announced;
 use batch_commands::unchecked::judge;
-use batch_commands::unchecked::width;
 use refusal::Answer;
 use refusal::Refusal;
 ghost use mathlib.Core.Path.{_≡_};
-ghost use Prim.Native.Nat.{_<_};
-ghost use lib.ListN.{length, drop};
-ghost use Rattle.batch_reader.specs.Reading.{stepOf, reading};
+ghost use Prim.Native.Nat.{_+_, _<_, _≤_};
+ghost use lib.ListN.{length, drop, getD};
+ghost use Rattle.batch_commands.specs.Format.{width};
+ghost use Rattle.batch_commands.specs.Fault.{headOf};
+ghost use Rattle.batch_reader.specs.Reading.{reading};
 ghost use Rattle.batch_reader.specs.Answers.{countsIn, answerOf};
+ghost use Rattle.batch_reader.specs.Steps.{seenNothing, seenPast, stepOf};
 
 mod opener;
 pub mod unchecked;
@@ -29,32 +31,27 @@ pub enum OpenAnswer {
     Refused(Refusal),
 }
 
+// What the reader remembers of the commands before a place.
+pub(crate) struct Seen {
+    // The rows that 01 announced.
+    rows: usize,
+    // How often each command came.
+    came: [usize; batch_commands::COUNT],
+}
+
 // What the command at a place comes to.
 pub(crate) enum Step {
-    Stop(Refusal),
-    End,
-    // A command of which nothing is wrong.
+    Stop(OpenAnswer),
+    // A command of which nothing is wrong, and others follow.
     Next(usize),
 }
 
-// Where 01 announced `rows`, and each command came as often before as `came` says.
-fn step_at(batch: &[u8], at: usize, rows: usize, came: [usize; batch_commands::COUNT]) -> Step
-    requires { ⌜ at < length (now batch) ⌝ }
-    ensures { λ r. ⌜ r ≡ stepOf rows came (drop at (now (batch .entry))) ⌝ }
+fn seen_nothing() -> Seen
+    ensures { λ r. ⌜ r ≡ seenNothing ⌝ }
 {
-    match head_at(batch, at) {
-        Head::Unknown => Step::Stop(Refusal::UnknownCommand),
-        Head::CutOff => Step::Stop(Refusal::BatchCutOff),
-        Head::Whole(code) => match judge(batch, at + 1, code, rows, came) {
-            Answer::Refused(refusal) => Step::Stop(refusal),
-            Answer::Done => {
-                if code == batch_commands::END {
-                    Step::End
-                } else {
-                    Step::Next(code)
-                }
-            }
-        },
+    Seen {
+        rows: 0,
+        came: [0; batch_commands::COUNT],
     }
 }
 
@@ -71,27 +68,57 @@ fn counts_in(came: [usize; batch_commands::COUNT]) -> Counts
     }
 }
 
+fn step_at(head: Head, batch: &[u8], at: usize, seen: Seen) -> Step
+    requires { ⌜ head ≡ headOf (drop at (now batch)) ⌝ }
+    ensures { λ r. ⌜ r ≡ stepOf seen (drop at (now (batch .entry))) ⌝ }
+{
+    match head {
+        Head::Unknown => Step::Stop(OpenAnswer::Refused(Refusal::UnknownCommand)),
+        Head::CutOff => Step::Stop(OpenAnswer::Refused(Refusal::BatchCutOff)),
+        Head::Whole(code) => {
+            let came = seen.came;
+            match judge(batch, at + 1, code, seen.rows, came) {
+                Answer::Refused(refusal) => Step::Stop(OpenAnswer::Refused(refusal)),
+                Answer::Done => {
+                    if code == batch_commands::END {
+                        Step::Stop(OpenAnswer::Opened(counts_in(came)))
+                    } else {
+                        Step::Next(code)
+                    }
+                }
+            }
+        }
+    }
+}
+
+// With the command at a place too.
+fn seen_past(batch: &[u8], at: usize, code: usize, seen: Seen) -> Seen
+    requires { ⌜ (code < 10) × (at + 1 + width code ≤ length (now batch)) × (getD (seen .came) code 0 ≤ 128) ⌝ }
+    ensures { λ r. ⌜ r ≡ seenPast seen code (drop (at + 1) (now (batch .entry))) ⌝ }
+{
+    let mut came = seen.came;
+    came[code] = came[code] + 1;
+    Seen {
+        rows: announced(batch, at + 1, code, seen.rows),
+        came,
+    }
+}
+
 // The answer to a batch.
 pub fn read(batch: &[u8]) -> OpenAnswer
     ensures { λ r. ⌜ r ≡ answerOf (reading (now (batch .entry))) ⌝ }
 {
-    let mut came = [0usize; batch_commands::COUNT];
-    let mut rows: usize = 0;
-    let mut at: usize = 0;
-    while at < batch.len() {
-        match step_at(batch, at, rows, came) {
-            Step::Stop(refusal) => {
-                return OpenAnswer::Refused(refusal);
-            }
-            Step::End => {
-                return OpenAnswer::Opened(counts_in(came));
+    let mut opener = Opener::new(batch);
+    let mut seen = seen_nothing();
+    loop {
+        match step_at(opener.head(), opener.batch, opener.at, seen) {
+            Step::Stop(answer) => {
+                return answer;
             }
             Step::Next(code) => {
-                rows = announced(batch, at + 1, code, rows);
-                came[code] = came[code] + 1;
-                at = at + 1 + width(code);
+                seen = seen_past(opener.batch, opener.at, code, seen);
+                opener = opener.past(code);
             }
         }
     }
-    OpenAnswer::Refused(Refusal::BatchCutOff)
 }

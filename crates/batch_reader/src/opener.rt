@@ -1,13 +1,24 @@
 // A lent batch together with how far it has been read.
 use batch_commands::Head;
+use batch_commands::unchecked::width;
 ghost use mathlib.Core.Path.{_≡_};
-ghost use lib.ListN.{drop};
+ghost use Prim.Native.Nat.{_+_, _<_, _≤_, _^_};
+ghost use lib.ListN.{length, drop};
+ghost use Rattle.batch_commands.specs.Format.{width};
 ghost use Rattle.batch_commands.specs.Fault.{headOf};
 
 pub(crate) struct Opener<'a> {
-    batch: &'a [u8],
+    pub(crate) batch: &'a [u8],
     // How many bytes have been read.
-    at: usize,
+    pub(crate) at: usize,
+}
+
+// The place behind the command that stands at a place.
+fn place_past(at: usize, code: usize) -> usize
+    requires { ⌜ (code < 10) × (at + 1 + width code < 2 ^ 64) ⌝ }
+    ensures { λ r. ⌜ r ≡ at + 1 + width code ⌝ }
+{
+    at + 1 + width(code)
 }
 
 impl<'a> Opener<'a> {
@@ -25,20 +36,14 @@ impl<'a> Opener<'a> {
         batch_commands::head_at(self.batch, self.at)
     }
 
-    // The same batch, read up to another place.
-    pub(crate) fn moved(self, at: usize) -> Opener<'a>
-        ensures { λ r. ⌜ (r .batch ≡ self .entry .batch) × (r .at ≡ at) ⌝ }
+    // The command that stands there has been read too.
+    pub(crate) fn past(self, code: usize) -> Opener<'a>
+        requires { ⌜ (code < 10) × (self .at + 1 + width code ≤ length (now (self .batch))) ⌝ }
+        ensures { λ r. ⌜ (r .batch ≡ self .entry .batch) × (r .at ≡ self .entry .at + 1 + width code) ⌝ }
     {
         Opener {
             batch: self.batch,
-            at,
+            at: place_past(self.at, code),
         }
     }
-}
-
-// What stands at a place of a batch.
-pub(crate) fn head_at(batch: &[u8], at: usize) -> Head
-    ensures { λ r. ⌜ r ≡ headOf (drop at (now (batch .entry))) ⌝ }
-{
-    Opener::new(batch).moved(at).head()
 }

@@ -2,27 +2,30 @@
 use borrow.Author.Needs.{needs}
 use mathlib.Core.Path.{_≡_, sym, ap, _∙_}
 use Prim.Native.Nat.{_+_, _<_, _≤_}
-use lib.ListN.{length, drop}
+use native.Mathlib.Omega.{arith}
+use lib.ListN.{length, drop, length-drop}
+use lib.Seq.{drop-drop}
 use borrow.Author.Tests.{eq-eqb, ne-eqb}
 use Rattle.batch_commands.specs.Format.{width}
 use Rattle.batch_commands.specs.Fault.{judged}
-use Rattle.batch_reader.specs.Reading.{stepBy, stepOf}
-use Rattle.batch_reader.proofs.Faults.{unknown-there, cut-off-there, whole-there}
+use Rattle.batch_reader.specs.Steps.{stepBy, stepOf}
+use Rattle.batch_reader.proofs.Faults.{unknown-step, cut-off-step, whole-step}
 use Rattle.batch_reader.proofs.step_at.Statement.{statement}
 use Rattle.batch_reader.proofs.step_at.Tie as tie
 
-abbrev start : tie.After-code → tie.Start
-start c = c .before .before .before .before
+abbrev start : tie.After-head → tie.Start
+start c = c .before .before .before
 
-whole : (c : tie.After-code) → let args = start c .args in let k = c .code .given .0 .0 in
-    (k < 10) × (args .at + 1 + width k ≤ length (args .batch .now)) × (stepOf (args .rows) (args .came) (drop (args .at) (args .batch .now)) ≡ stepBy (judged (args .rows) (args .came) k (drop (args .at + 1) (args .batch .now))) k)
-whole c = whole-there (start c .args .batch .now) (start c .args .at) (start c .pre) (start c .args .rows) (start c .args .came) (c .code .given .0 .0) (sym (c .before .before .head-at .ensures) ∙ c .code .given .1)
+whole : (c : tie.After-head) → let args = start c .args in let k = c .head .given .0 .0 in
+    (k < 10) × (args .at + 1 + width k ≤ length (args .batch .now)) × (stepOf (args .seen) (drop (args .at) (args .batch .now)) ≡ stepBy (judged (args .seen .rows) (args .seen .came) k (drop (args .at + 1) (args .batch .now))) k (args .seen .came))
+whole c =
+    let args = start c .args in
+    let w = whole-step (args .seen) (drop (args .at) (args .batch .now)) (c .head .given .0 .0) (sym (start c .pre) ∙ c .head .given .1) in
+    let fits : args .at + 1 + width (c .head .given .0 .0) ≤ length (args .batch .now) = omega (arith, w .1, length-drop (args .at) (args .batch .now)) in
+    (w .0, fits, rw drop-drop at (w .2))
 
-by-judge : (c : tie.After-judge) → let args = start (c .before .before) .args in stepOf (args .rows) (args .came) (drop (args .at) (args .batch .now)) ≡ stepBy (c .judge .result) (c .before .before .code .given .0 .0)
-by-judge c = whole (c .before .before) .2 ∙ ap (λ a. stepBy a (c .before .before .code .given .0 .0)) (sym (c .judge .ensures))
-
-head-at-requires : tie.Need-head-at-requires
-head-at-requires c κs = search needs
+by-judge : (c : tie.After-judge) → let told = c .before .before .before in let args = start told .args in stepOf (args .seen) (drop (args .at) (args .batch .now)) ≡ stepBy (c .judge .result) (told .head .given .0 .0) (args .seen .came)
+by-judge c = let told = c .before .before .before in whole told .2 ∙ ap (λ a. stepBy a (told .head .given .0 .0) (start told .args .seen .came)) (sym (c .judge .ensures))
 
 enum-told : tie.Need-enum-told
 enum-told c = search needs
@@ -30,14 +33,14 @@ enum-told c = search needs
 enum-told-2 : tie.Need-enum-told-2
 enum-told-2 c = search needs
 
-enum-known-code : tie.Need-enum-known-code
-enum-known-code c = search needs
+enum-known-head : tie.Need-enum-known-head
+enum-known-head c = search needs
 
 add-judge : tie.Need-add-judge
-add-judge c = search needs
+add-judge c = let w = whole (c .before .before) in omega arith
 
 judge-requires : tie.Need-judge-requires
-judge-requires c κs = let w = whole (c .before) in (w .0, w .1)
+judge-requires c κs = let w = whole (c .before .before) in (w .0, w .1)
 
 enum-known-refusal : tie.Need-enum-known-refusal
 enum-known-refusal c = search needs
@@ -45,17 +48,20 @@ enum-known-refusal c = search needs
 enum-told-3 : tie.Need-enum-told-3
 enum-told-3 c = search needs
 
+counts-in-requires : tie.Need-counts-in-requires
+counts-in-requires c κs = search needs
+
 returns : tie.Need-returns
-returns c = let start = c .before .before .before .before in sym (unknown-there (start .args .batch .now) (start .args .at) (start .pre) (start .args .rows) (start .args .came) (sym (c .before .before .head-at .ensures) ∙ c .enum-told .given .1))
+returns c = let start = c .before .before .before in sym (unknown-step (start .args .seen) (drop (start .args .at) (start .args .batch .now)) (sym (start .pre) ∙ c .enum-told .given .1))
 
 returns-2 : tie.Need-returns-2
-returns-2 c = let start = c .before .before .before .before in sym (cut-off-there (start .args .batch .now) (start .args .at) (start .pre) (start .args .rows) (start .args .came) (sym (c .before .before .head-at .ensures) ∙ c .enum-told2 .given .1))
+returns-2 c = let start = c .before .before .before in sym (cut-off-step (start .args .seen) (drop (start .args .at) (start .args .batch .now)) (sym (start .pre) ∙ c .enum-told2 .given .1))
 
 returns-3 : tie.Need-returns-3
-returns-3 c = let judged = c .before .before .before in sym (by-judge judged ∙ rw (c .before .refusal .given .1))
+returns-3 c = sym (by-judge (c .before .before .before) ∙ rw (c .before .refusal .given .1))
 
 returns-4 : tie.Need-returns-4
-returns-4 c = let told = c .before in sym (by-judge (told .before .before) ∙ rw (told .enum-told3 .given .1, eq-eqb _ 0 (c .if1 .taken)))
+returns-4 c = let told = c .before .before in sym (by-judge (told .before .before) ∙ rw (told .enum-told3 .given .1, eq-eqb _ 0 (c .before .if1 .taken), c .counts-in .ensures))
 
 returns-5 : tie.Need-returns-5
 returns-5 c = let told = c .before in sym (by-judge (told .before .before) ∙ rw (told .enum-told3 .given .1, ne-eqb _ 0 (c .if1 .left)))
@@ -64,14 +70,14 @@ pub step-at-spec : {M : Type 1} → statement M
 step-at-spec =
     tie.close
     (tie.spec
-    head-at-requires
     enum-told
     enum-told-2
-    enum-known-code
+    enum-known-head
     add-judge
     judge-requires
     enum-known-refusal
     enum-told-3
+    counts-in-requires
     returns
     returns-2
     returns-3

@@ -1,0 +1,35 @@
+-- One command, as the code has it: what it comes to after the commands that were seen, and what is then remembered.
+use mathlib.Core.Bool.{cond}
+use mathlib.Core.List.{List, [], _∷_}
+use Prim.Native.Nat.{ℕ, _+_}
+use lib.Dec.{eqb}
+use lib.ListN.{take, getD, set, replicate}
+use Rattle.refusal.specs.declared.Answer.{Answer}
+use Rattle.refusal.specs.declared.Answer.the-variants as answer
+use Rattle.refusal.specs.declared.Refusal.the-variants.{BatchCutOff}
+use Rattle.batch_words.specs.Words.{number}
+use Rattle.batch_commands.specs.Format.{END, TRACE-ROWS, width}
+use Rattle.batch_commands.specs.Fault.{fault}
+use Rattle.batch_reader.specs.declared.OpenAnswer.the-variants.{Opened, Refused}
+use Rattle.batch_reader.specs.declared.Seen.{Seen}
+use Rattle.batch_reader.specs.declared.Step.{Step}
+use Rattle.batch_reader.specs.declared.Step.the-variants.{Stop, Next}
+use Rattle.batch_reader.specs.Answers.{countsIn}
+
+abbrev pub seenNothing : Seen
+seenNothing = record { rows = 0; came = replicate 10 0 }
+
+abbrev pub seenPast : Seen → ℕ → List ℕ → Seen
+seenPast seen code bytes =
+    record {
+      rows = cond (eqb code TRACE-ROWS) (number (take (width code) bytes)) (seen .rows);
+      came = set (seen .came) code (getD (seen .came) code 0 + 1);
+    }
+
+abbrev pub stepBy : Answer → ℕ → List ℕ → Step
+stepBy (answer.Refused refusal) code came = Stop (Refused refusal)
+stepBy answer.Done code came = cond (eqb code END) (Stop (Opened (countsIn came))) (Next code)
+
+abbrev pub stepOf : Seen → List ℕ → Step
+stepOf seen [] = Stop (Refused BatchCutOff)
+stepOf seen (code ∷ bytes) = stepBy (fault (seen .rows) (seen .came) code bytes) code (seen .came)
