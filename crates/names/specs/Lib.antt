@@ -1,0 +1,3 @@
+-- Names as text, and lists of named places.
+pub mod Name
+pub mod Places
