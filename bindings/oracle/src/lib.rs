@@ -26,6 +26,7 @@ use crate::table::running_arguments::{par_running_affine_maps, par_running_produ
 include!(concat!(env!("OUT_DIR"), "/root.rs"));
 
 mod aet;
+pub mod constraints;
 mod profiler;
 pub mod rows;
 mod table;

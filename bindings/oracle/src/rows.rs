@@ -2,12 +2,37 @@
 
 use tealbobbin::field::{Element, P};
 use tealbobbin::plain::extension::column::{CI, CLK, IS_PADDING, MULTIPLICITY, NIA};
-pub use tealbobbin::plain::extension::opcode::ALL as OPCODES;
+use tealbobbin::plain::extension::opcode::*;
 use tealbobbin::plain::extension::{COLUMNS, Challenges, Kind};
 use tealbobbin::plain::pad;
 use tealbobbin::random::Random;
 
-const IB0: usize = 5;
+pub const IB0: usize = 5;
+
+/// The auxiliary columns in their order.
+pub mod aux_column {
+    pub const INPUT: usize = 0;
+    pub const OUTPUT: usize = 1;
+    pub const INSTRUCTION_LOOKUP: usize = 2;
+    pub const OP_STACK: usize = 3;
+    pub const RAM: usize = 4;
+    pub const JUMP_STACK: usize = 5;
+    pub const HASH_INPUT: usize = 6;
+    pub const HASH_DIGEST: usize = 7;
+    pub const SPONGE: usize = 8;
+    pub const U32_LOOKUP: usize = 9;
+    pub const CLOCK_LOOKUP: usize = 10;
+}
+
+/// All opcodes.
+pub const OPCODES: [u64; 46] = ALL;
+
+pub const HALT: u64 = 0;
+
+/// Opcodes with any word for an argument, Push, Call and AddI; with 0 to 15, Pick, Place, Dup and Swap; with 1 to 5.
+pub const ANY_WORD: [u64; 3] = [PUSH, 49, 65];
+pub const STACK_ELEMENT: [u64; 4] = [17, 25, DUP, 41];
+pub const NUMBER_OF_WORDS: [u64; 6] = [POP, DIVINE, READ_MEM, WRITE_MEM, READ_IO, WRITE_IO];
 
 /// Words that are no opcode, some of them one in their low bits.
 pub const OTHERS: [u64; 12] = [5, 7, 13, 27, 35, 89, 127, 256 + 73, (1 << 32) + 18, (1 << 32) + 73, P - 1, P - 73];

@@ -1,9 +1,8 @@
-//! The original's columns, challenges and processor table. Its constraints compile and say nothing.
+//! The original's columns, challenges and processor table with its constraints.
 
 #![allow(dead_code)]
 
 extern crate assorted as arbitrary;
-extern crate assorted as constraint_circuit;
 extern crate assorted as itertools;
 extern crate assorted as strum;
 

@@ -3,6 +3,7 @@
 //!     differential [SEED] [COUNT]
 
 mod claims;
+mod constraints;
 mod decoding;
 mod extension;
 mod scans;
@@ -33,6 +34,7 @@ fn main() {
         scans::compare(&mut random, count),
         tables::compare(&mut random, count, &mut rows),
         extension::compare(&mut random, count, &mut rows),
+        constraints::compare(&mut random),
     ];
     println!("{rows} rows of tables compared in all");
     std::process::exit(if right.iter().all(|&r| r) { 0 } else { 1 });

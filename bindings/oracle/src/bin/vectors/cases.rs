@@ -1,6 +1,6 @@
 //! The list of cases.
 
-use oracle::rows::OPCODES;
+use oracle::rows::{ANY_WORD, HALT, NUMBER_OF_WORDS, OPCODES, STACK_ELEMENT};
 use tealbobbin::field::P;
 use tealbobbin::plain::extension::column::{IS_PADDING, OP_STACK_POINTER, ST0};
 use tealbobbin::plain::extension::opcode::*;
@@ -9,13 +9,6 @@ use tealbobbin::random::Random;
 
 use crate::roots::ROOTS;
 use crate::runs::{Case, TRACE_ROWS, any_rows, of_parity, row, traces, words};
-
-const PICK: u64 = 17;
-const PLACE: u64 = 25;
-const SWAP: u64 = 41;
-const CALL: u64 = 49;
-const ADD_I: u64 = 65;
-const HALT: u64 = 0;
 
 /// The most differences of a list, and words of input or output.
 const DIFFERENCES: usize = 128;
@@ -48,9 +41,9 @@ const POINTERS: [usize; 4] = [OP_STACK_POINTER, ST0, ST0 + 1, ST0 + 7];
 
 /// The opcodes with an argument; arguments at the ends of their class, beside them, and with one in their low bits.
 const ARGUMENTS: [(&[u64], &[u64]); 3] = [
-    (&[PUSH, CALL, ADD_I], &[0, P - 1]),
-    (&[PICK, PLACE, DUP, SWAP], &[0, 16, 15, 1 << 8, 1 << 32]),
-    (&[POP, DIVINE, READ_MEM, WRITE_MEM, READ_IO, WRITE_IO], &[1, 0, 5, 6, (1 << 8) + 1, (1 << 32) + 1]),
+    (&ANY_WORD, &[0, P - 1]),
+    (&STACK_ELEMENT, &[0, 16, 15, 1 << 8, 1 << 32]),
+    (&NUMBER_OF_WORDS, &[1, 0, 5, 6, (1 << 8) + 1, (1 << 32) + 1]),
 ];
 
 /// Words that are no opcode.

@@ -1,6 +1,7 @@
 //! Indeterminates at which a denominator or a factor is zero, or would be if the row had an entry.
 
-use oracle::rows::symbols;
+use oracle::rows::aux_column::*;
+use oracle::rows::{HALT, symbols};
 use tealbobbin::field::Element;
 use tealbobbin::plain;
 use tealbobbin::plain::extension::column::{IS_PADDING, MULTIPLICITY};
@@ -10,16 +11,6 @@ use tealbobbin::processor::Row;
 use tealbobbin::random::Random;
 
 use crate::runs::{Case, row};
-
-const HALT: u64 = 0;
-
-/// Columns by their number.
-const INSTRUCTION_LOOKUP: usize = 2;
-const OP_STACK: usize = 3;
-const RAM: usize = 4;
-const JUMP_STACK: usize = 5;
-const U32_LOOKUP: usize = 9;
-const CLOCK_LOOKUP: usize = 10;
 
 /// A column's indeterminate at the element of an entry, whose denominator or factor is then zero;
 /// or at the element that the row would enter if it were no padding and had a multiplicity.

@@ -1,13 +1,11 @@
-//! What the original uses of arbitrary, constraint-circuit, get-size2, itertools, lazy_static, num-traits, serde, strum and
+//! What the original uses of arbitrary, get-size2, itertools, lazy_static, num-traits, serde, strum and
 //! thiserror. A crate names this one after each of them: `extern crate assorted as strum;`.
 
 mod arbitrary;
-mod constraint_circuit;
 mod itertools;
 mod num_traits;
 
 pub use arbitrary::*;
-pub use constraint_circuit::*;
 pub use derives::*;
 pub use itertools::*;
 pub use num_traits::*;
