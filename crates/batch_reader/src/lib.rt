@@ -42,7 +42,7 @@ pub(crate) struct Seen {
 // What the command at a place comes to.
 pub(crate) enum Step {
     Stop(OpenAnswer),
-    // A command of which nothing is wrong, and others follow.
+    // A command of which nothing is wrong, and not the last.
     Next(usize),
 }
 

@@ -1,6 +1,6 @@
 -- The head decides on 7 and 8, then the judge.
 use borrow.Author.Needs.{needs}
-use mathlib.Core.Path.{_≡_, sym, ap, _∙_}
+use mathlib.Core.Path.{_≡_, sym, _∙_}
 use Prim.Native.Nat.{_+_, _<_, _≤_}
 use native.Mathlib.Omega.{arith}
 use lib.ListN.{length, drop, length-drop}
@@ -25,7 +25,7 @@ whole c =
     (w .0, fits, rw drop-drop at (w .2))
 
 by-judge : (c : tie.After-judge) → let told = c .before .before .before in let args = start told .args in stepOf (args .seen) (drop (args .at) (args .batch .now)) ≡ stepBy (c .judge .result) (told .head .given .0 .0) (args .seen .came)
-by-judge c = let told = c .before .before .before in whole told .2 ∙ ap (λ a. stepBy a (told .head .given .0 .0) (start told .args .seen .came)) (sym (c .judge .ensures))
+by-judge c = rw (c .judge .ensures) (whole (c .before .before .before) .2)
 
 enum-told : tie.Need-enum-told
 enum-told c = search needs
