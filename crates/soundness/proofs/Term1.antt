@@ -42,7 +42,7 @@ use Rattle.extension_answer.specs.Answer as extension
 use Rattle.extension_answer.specs.Answer.{extendAnswer}
 use Rattle.extension_answer.proofs.Accepted.{wrongRows, wrongWords}
 use Rattle.processor.specs.Extend.{extendAux, extendWork}
-use Rattle.batch_commands.specs.Format.{ROW, OP-STACK, RAM, JUMP-STACK, SAMPLED, DIGEST, INPUT, OUTPUT, END, width, wordsIn}
+use Rattle.batch_commands.specs.Format.{END, width, wordsIn}
 use Rattle.batch_commands.specs.Fault.{outOfPlace, wrongRowCount, judged, fault}
 use Rattle.batch_reader.specs.Commands.{Command, counts, announced}
 use Rattle.batch_reader.specs.Reading.{Reading, read, unless, readFrom, reading}
@@ -52,8 +52,8 @@ use Rattle.batch_reader.specs.declared.OpenAnswer.the-variants as open-answer
 use Rattle.batch.specs.Open as batch
 use Rattle.batch.specs.Open.{openNumber, openAnswer, openSlice}
 use Rattle.abi_answers.specs.Field.{isWord, isElement, baseWritten, elementWritten, elementNumberInto, elementInto, unaryNumber, unaryOut}
-use Rattle.abi_answers.specs.Open.{openInto, countsInto}
-use Rattle.soundness.specs.Term1.{_∈_, Answers, OnWords, OnElement, OnElements, Scans, Term1}
+use Rattle.abi_answers.specs.Open.{openInto}
+use Rattle.soundness.specs.Term1.{_∈_, Answers, OnWords, OnElement, OnElements, Scans, AsLent, Term1}
 use Rattle.soundness.proofs.Tests.{every, and-both}
 
 -- whether a number stands in a list
@@ -105,18 +105,21 @@ by-tests {line} refuse number numbered (t ∷ ts) l last f =
 done : {line : List ℕ} {unchanged : Type 0} → Answers line 0 unchanged
 done = record { fixed = zero-listed; kept = λ ne. absurd (ne refl) }
 
+refused : {line : List ℕ} {number : ℕ} {unchanged : Type 0} → number ∈ 0 ∷ line → unchanged → Answers line number unchanged
+refused f u = record { fixed = f; kept = λ ne. u }
+
 -- a slice of the wrong length brings 1
 guarded : {line : List ℕ} (right : Bool) (number : ℕ) (after out : List ℕ) → T (stands line 1) → Answers line number (after ≡ out)
     → Answers line (cond right number 1) (cond right after out ≡ out)
 guarded true number after out t a = a
-guarded false number after out t a = record { fixed = listed SliceLength t; kept = λ ne. refl }
+guarded false number after out t a = refused (listed SliceLength t) refl
 
 on-words : {line : List ℕ} (answer : BaseAnswer) → T (stands line 1) → baseNumber answer ∈ 0 ∷ line → OnWords line answer
 on-words {line} answer t fixed out = guarded (isWord out) (baseNumber answer) (baseWritten out answer) out t (go answer fixed)
   where
     go : (a : BaseAnswer) → baseNumber a ∈ 0 ∷ line → Answers line (baseNumber a) (baseWritten out a ≡ out)
     go (base-answer.Word w) f = done
-    go (base-answer.Refused r) f = record { fixed = f; kept = λ ne. refl }
+    go (base-answer.Refused r) f = refused f refl
 
 on-element : {line : List ℕ} (f : XFieldElement → ElementAnswer) → T (stands line 1) → ((e : XFieldElement) → answers.elementNumber (f e) ∈ 0 ∷ line) → OnElement line f
 on-element {line} f t fixed a out =
@@ -126,7 +129,7 @@ on-element {line} f t fixed a out =
   where
     go : (b : ElementAnswer) → answers.elementNumber b ∈ 0 ∷ line → Answers line (answers.elementNumber b) (elementWritten out b ≡ out)
     go (element-answer.Element e) f = done
-    go (element-answer.Refused r) f = record { fixed = f; kept = λ ne. refl }
+    go (element-answer.Refused r) f = refused f refl
 
 on-elements : {line : List ℕ} (f : XFieldElement → XFieldElement → ElementAnswer) → T (stands line 1)
     → ((d e : XFieldElement) → answers.elementNumber (f d e) ∈ 0 ∷ line) → OnElements line f
@@ -144,7 +147,7 @@ element-checked below answer t f = chosen answers.elementNumber below answer (el
 
 decode-kept : {line : List ℕ} (a : DecodeAnswer) → answerNumber a ∈ 0 ∷ line → (out : List ℕ) → Answers line (answerNumber a) (answerWords a out ≡ out)
 decode-kept (decode-answer.Row d) f out = done
-decode-kept (decode-answer.Refused r) f out = record { fixed = f; kept = λ ne. refl }
+decode-kept (decode-answer.Refused r) f out = refused f refl
 
 -- operations that answer `Answer`
 by-refusals : {line : List ℕ} (ts : Tests) → Listed line ts → answerNumberOf (chain Refused ts Done) ∈ 0 ∷ line
@@ -153,7 +156,7 @@ by-refusals ts l = by-tests Refused answerNumberOf (λ r. refl) ts l Done zero-l
 on-done : {line : List ℕ} (answer : Answer) → answerNumberOf answer ∈ 0 ∷ line → (result slice : List ℕ)
     → Answers line (answerNumberOf answer) (onDone answer result slice ≡ slice)
 on-done Done f result slice = done
-on-done (Refused r) f result slice = record { fixed = f; kept = λ ne. refl }
+on-done (Refused r) f result slice = refused f refl
 
 scans : {line : List ℕ} → T (every (stands line) (1 ∷ 5 ∷ 2 ∷ [])) → (width : ℕ) (scanned : List ℕ → List ℕ) → Scans line width scanned
 unfolding scanAnswer scanWords
@@ -200,19 +203,10 @@ module _ (line : List ℕ) (t : T (every (stands line) (7 ∷ 8 ∷ 9 ∷ 3 ∷ 
 
 module _ (bytes trace op-stack ram jump-stack sampled digest input output six : List ℕ) where
   open-kept : {line : List ℕ} (answer : OpenAnswer) → openNumber answer ∈ 0 ∷ line
-      → Answers line (openNumber answer)
-      ((openSlice answer ROW bytes trace ≡ trace)
-      × (openSlice answer OP-STACK bytes op-stack ≡ op-stack)
-      × (openSlice answer RAM bytes ram ≡ ram)
-      × (openSlice answer JUMP-STACK bytes jump-stack ≡ jump-stack)
-      × (openSlice answer SAMPLED bytes sampled ≡ sampled)
-      × (openSlice answer DIGEST bytes digest ≡ digest)
-      × (openSlice answer INPUT bytes input ≡ input)
-      × (openSlice answer OUTPUT bytes output ≡ output)
-      × (countsInto answer six ≡ six))
+      → Answers line (openNumber answer) (AsLent answer bytes trace op-stack ram jump-stack sampled digest input output six)
   unfolding openSlice
   open-kept (open-answer.Opened c) f = done
-  open-kept (open-answer.Refused r) f = record { fixed = f; kept = λ ne. (refl, refl, refl, refl, refl, refl, refl, refl, refl) }
+  open-kept (open-answer.Refused r) f = refused f (refl, refl, refl, refl, refl, refl, refl, refl, refl)
 
 pub term1 : Term1
 unfolding decodeAnswer challengesAnswer challengesRecord fillAnswer fillTable padAnswer padTable extendAnswer extendAux extendWork openInto openAnswer reading

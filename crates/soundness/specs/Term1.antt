@@ -1,5 +1,6 @@
--- Term 1: every call of a public operation answers 0 or a number of the operation's line in document 01; after a refusal no lent slice has changed.
--- The operations are those that `engine` exports. Number and slices are the terms that their contracts give: any words, slices of any length.
+-- Term 1: every call of a public operation ends with 0 or a number of the operation's line in document 01; after a refusal no lent slice has changed.
+-- The operations are those that `engine` exports. That a call ends is part of each contract, and none has a `requires`; number and slices are the
+-- terms that the contracts give: any words, slices of any length.
 use mathlib.Core.Path.{_≡_}
 use mathlib.Core.Logic.{_≢_}
 use mathlib.Core.List.{List, [], _∷_, List·Memᴰ}
@@ -20,6 +21,7 @@ use Rattle.table_pad.specs.Pad.{padAnswer, padTable}
 use Rattle.extension_answer.specs.Answer.{extendAnswer}
 use Rattle.processor.specs.Extend.{extendAux, extendWork}
 use Rattle.batch_commands.specs.Format.{ROW, OP-STACK, RAM, JUMP-STACK, SAMPLED, DIGEST, INPUT, OUTPUT}
+use Rattle.batch_reader.specs.declared.OpenAnswer.{OpenAnswer}
 use Rattle.batch.specs.Open.{openNumber, openSlice}
 use Rattle.abi_answers.specs.Field.{baseNumberInto, baseInto, unaryNumber, unaryOut, binaryNumber, binaryOut}
 use Rattle.abi_answers.specs.Decode.{decodeNumberInto, decodeInto}
@@ -50,6 +52,19 @@ abbrev pub Scans : List ℕ → ℕ → (List ℕ → List ℕ) → Type 0
 Scans line width scanned =
     (items : List ℕ) (chunk : ℕ) → Answers line (answerNumberOf (scanAnswer width items chunk)) (scanWords width items chunk (scanned items) ≡ items)
 
+-- open's eight slices and its counts, as they were
+abbrev pub AsLent : OpenAnswer → (bytes trace op-stack ram jump-stack sampled digest input output counts : List ℕ) → Type 0
+AsLent answer bytes trace op-stack ram jump-stack sampled digest input output counts =
+    (openSlice answer ROW bytes trace ≡ trace)
+    × (openSlice answer OP-STACK bytes op-stack ≡ op-stack)
+    × (openSlice answer RAM bytes ram ≡ ram)
+    × (openSlice answer JUMP-STACK bytes jump-stack ≡ jump-stack)
+    × (openSlice answer SAMPLED bytes sampled ≡ sampled)
+    × (openSlice answer DIGEST bytes digest ≡ digest)
+    × (openSlice answer INPUT bytes input ≡ input)
+    × (openSlice answer OUTPUT bytes output ≡ output)
+    × (countsInto answer counts ≡ counts)
+
 -- The lines are document 01's, "Refusals by operation". A field operation over slices also answers 1.
 pub record Term1 : Type 0 where
   pub base-add : (a b : ℕ) → OnWords (1 ∷ 2 ∷ []) (baseAdd a b)
@@ -78,12 +93,4 @@ pub record Term1 : Type 0 where
   pub open-batch : (bytes trace op-stack ram jump-stack sampled digest input output counts : List ℕ)
       → let answer = openInto counts bytes (length trace) (length op-stack) (length ram) (length jump-stack) (length sampled) (length digest) (length input) (length output) in
       Answers (1 ∷ 7 ∷ 8 ∷ 9 ∷ 3 ∷ 2 ∷ []) (openNumber answer)
-      ((openSlice answer ROW bytes trace ≡ trace)
-      × (openSlice answer OP-STACK bytes op-stack ≡ op-stack)
-      × (openSlice answer RAM bytes ram ≡ ram)
-      × (openSlice answer JUMP-STACK bytes jump-stack ≡ jump-stack)
-      × (openSlice answer SAMPLED bytes sampled ≡ sampled)
-      × (openSlice answer DIGEST bytes digest ≡ digest)
-      × (openSlice answer INPUT bytes input ≡ input)
-      × (openSlice answer OUTPUT bytes output ≡ output)
-      × (countsInto answer counts ≡ counts))
+      (AsLent answer bytes trace op-stack ram jump-stack sampled digest input output counts)
