@@ -2,7 +2,6 @@
 use mathlib.Core.Path.{_≡_}
 use mathlib.Core.List.{List, [], _∷_}
 use Prim.Native.Nat.{ℕ}
-use Rattle.names.specs.Places.{Place, _called_, places}
 use Rattle.air.specs.Count.{upTo}
 
 abbrev pub AUX-WIDTH : ℕ
@@ -41,22 +40,22 @@ U32-LOOKUP-CLIENT-LOG-DERIVATIVE = 9
 abbrev pub CLOCK-JUMP-DIFFERENCE-LOOKUP-SERVER-LOG-DERIVATIVE : ℕ
 CLOCK-JUMP-DIFFERENCE-LOOKUP-SERVER-LOG-DERIVATIVE = 10
 
--- by the Rust's names, in the order of `ProcessorAuxColumn`
-abbrev pub columns : List Place
+-- in the order of `ProcessorAuxColumn`
+abbrev pub columns : List ℕ
 columns =
-    INPUT-TABLE-EVAL-ARG called "InputTableEvalArg" ∷
-    OUTPUT-TABLE-EVAL-ARG called "OutputTableEvalArg" ∷
-    INSTRUCTION-LOOKUP-CLIENT-LOG-DERIVATIVE called "InstructionLookupClientLogDerivative" ∷
-    OP-STACK-TABLE-PERM-ARG called "OpStackTablePermArg" ∷
-    RAM-TABLE-PERM-ARG called "RamTablePermArg" ∷
-    JUMP-STACK-TABLE-PERM-ARG called "JumpStackTablePermArg" ∷
-    HASH-INPUT-EVAL-ARG called "HashInputEvalArg" ∷
-    HASH-DIGEST-EVAL-ARG called "HashDigestEvalArg" ∷
-    SPONGE-EVAL-ARG called "SpongeEvalArg" ∷
-    U32-LOOKUP-CLIENT-LOG-DERIVATIVE called "U32LookupClientLogDerivative" ∷
-    CLOCK-JUMP-DIFFERENCE-LOOKUP-SERVER-LOG-DERIVATIVE called "ClockJumpDifferenceLookupServerLogDerivative" ∷
+    INPUT-TABLE-EVAL-ARG ∷
+    OUTPUT-TABLE-EVAL-ARG ∷
+    INSTRUCTION-LOOKUP-CLIENT-LOG-DERIVATIVE ∷
+    OP-STACK-TABLE-PERM-ARG ∷
+    RAM-TABLE-PERM-ARG ∷
+    JUMP-STACK-TABLE-PERM-ARG ∷
+    HASH-INPUT-EVAL-ARG ∷
+    HASH-DIGEST-EVAL-ARG ∷
+    SPONGE-EVAL-ARG ∷
+    U32-LOOKUP-CLIENT-LOG-DERIVATIVE ∷
+    CLOCK-JUMP-DIFFERENCE-LOOKUP-SERVER-LOG-DERIVATIVE ∷
     []
 
 -- they count from 0, without a gap
 abbrev pub Counted : Type 0
-Counted = places columns ≡ upTo AUX-WIDTH
+Counted = columns ≡ upTo AUX-WIDTH

@@ -1,8 +1,7 @@
 -- The challenges' places in their record; each is one element, of three words.
 use mathlib.Core.Path.{_≡_}
-use mathlib.Core.List.{List, [], _∷_, _++_}
+use mathlib.Core.List.{List, [], _∷_}
 use Prim.Native.Nat.{ℕ}
-use Rattle.names.specs.Places.{Place, _called_, places}
 use Rattle.air.specs.Count.{upTo}
 
 abbrev pub COUNT : ℕ
@@ -201,93 +200,74 @@ LOOKUP-TABLE-PUBLIC-TERMINAL = 61
 abbrev pub COMPRESSED-PROGRAM-DIGEST : ℕ
 COMPRESSED-PROGRAM-DIGEST = 62
 
--- by the Rust's names, in the order of `ChallengeId`
-abbrev pub indeterminates : List Place
-indeterminates =
-    COMPRESS-PROGRAM-DIGEST-INDETERMINATE called "CompressProgramDigestIndeterminate" ∷
-    STANDARD-INPUT-INDETERMINATE called "StandardInputIndeterminate" ∷
-    STANDARD-OUTPUT-INDETERMINATE called "StandardOutputIndeterminate" ∷
-    INSTRUCTION-LOOKUP-INDETERMINATE called "InstructionLookupIndeterminate" ∷
-    HASH-INPUT-INDETERMINATE called "HashInputIndeterminate" ∷
-    HASH-DIGEST-INDETERMINATE called "HashDigestIndeterminate" ∷
-    SPONGE-INDETERMINATE called "SpongeIndeterminate" ∷
-    OP-STACK-INDETERMINATE called "OpStackIndeterminate" ∷
-    RAM-INDETERMINATE called "RamIndeterminate" ∷
-    JUMP-STACK-INDETERMINATE called "JumpStackIndeterminate" ∷
-    U32-INDETERMINATE called "U32Indeterminate" ∷
-    CLOCK-JUMP-DIFFERENCE-LOOKUP-INDETERMINATE called "ClockJumpDifferenceLookupIndeterminate" ∷
-    RAM-TABLE-BEZOUT-RELATION-INDETERMINATE called "RamTableBezoutRelationIndeterminate" ∷
+-- in the order of `ChallengeId`
+abbrev pub challenges : List ℕ
+challenges =
+    COMPRESS-PROGRAM-DIGEST-INDETERMINATE ∷
+    STANDARD-INPUT-INDETERMINATE ∷
+    STANDARD-OUTPUT-INDETERMINATE ∷
+    INSTRUCTION-LOOKUP-INDETERMINATE ∷
+    HASH-INPUT-INDETERMINATE ∷
+    HASH-DIGEST-INDETERMINATE ∷
+    SPONGE-INDETERMINATE ∷
+    OP-STACK-INDETERMINATE ∷
+    RAM-INDETERMINATE ∷
+    JUMP-STACK-INDETERMINATE ∷
+    U32-INDETERMINATE ∷
+    CLOCK-JUMP-DIFFERENCE-LOOKUP-INDETERMINATE ∷
+    RAM-TABLE-BEZOUT-RELATION-INDETERMINATE ∷
+    PROGRAM-ADDRESS-WEIGHT ∷
+    PROGRAM-INSTRUCTION-WEIGHT ∷
+    PROGRAM-NEXT-INSTRUCTION-WEIGHT ∷
+    OP-STACK-CLK-WEIGHT ∷
+    OP-STACK-IB1-WEIGHT ∷
+    OP-STACK-POINTER-WEIGHT ∷
+    OP-STACK-FIRST-UNDERFLOW-ELEMENT-WEIGHT ∷
+    RAM-CLK-WEIGHT ∷
+    RAM-POINTER-WEIGHT ∷
+    RAM-VALUE-WEIGHT ∷
+    RAM-INSTRUCTION-TYPE-WEIGHT ∷
+    JUMP-STACK-CLK-WEIGHT ∷
+    JUMP-STACK-CI-WEIGHT ∷
+    JUMP-STACK-JSP-WEIGHT ∷
+    JUMP-STACK-JSO-WEIGHT ∷
+    JUMP-STACK-JSD-WEIGHT ∷
+    PROGRAM-ATTESTATION-PREPARE-CHUNK-INDETERMINATE ∷
+    PROGRAM-ATTESTATION-SEND-CHUNK-INDETERMINATE ∷
+    HASH-CI-WEIGHT ∷
+    STACK-WEIGHT0 ∷
+    STACK-WEIGHT1 ∷
+    STACK-WEIGHT2 ∷
+    STACK-WEIGHT3 ∷
+    STACK-WEIGHT4 ∷
+    STACK-WEIGHT5 ∷
+    STACK-WEIGHT6 ∷
+    STACK-WEIGHT7 ∷
+    STACK-WEIGHT8 ∷
+    STACK-WEIGHT9 ∷
+    STACK-WEIGHT10 ∷
+    STACK-WEIGHT11 ∷
+    STACK-WEIGHT12 ∷
+    STACK-WEIGHT13 ∷
+    STACK-WEIGHT14 ∷
+    STACK-WEIGHT15 ∷
+    HASH-CASCADE-LOOKUP-INDETERMINATE ∷
+    HASH-CASCADE-LOOK-IN-WEIGHT ∷
+    HASH-CASCADE-LOOK-OUT-WEIGHT ∷
+    CASCADE-LOOKUP-INDETERMINATE ∷
+    LOOKUP-TABLE-INPUT-WEIGHT ∷
+    LOOKUP-TABLE-OUTPUT-WEIGHT ∷
+    LOOKUP-TABLE-PUBLIC-INDETERMINATE ∷
+    U32-LHS-WEIGHT ∷
+    U32-RHS-WEIGHT ∷
+    U32-CI-WEIGHT ∷
+    U32-RESULT-WEIGHT ∷
+    STANDARD-INPUT-TERMINAL ∷
+    STANDARD-OUTPUT-TERMINAL ∷
+    LOOKUP-TABLE-PUBLIC-TERMINAL ∷
+    COMPRESSED-PROGRAM-DIGEST ∷
     []
-
-abbrev pub weights : List Place
-weights =
-    PROGRAM-ADDRESS-WEIGHT called "ProgramAddressWeight" ∷
-    PROGRAM-INSTRUCTION-WEIGHT called "ProgramInstructionWeight" ∷
-    PROGRAM-NEXT-INSTRUCTION-WEIGHT called "ProgramNextInstructionWeight" ∷
-    OP-STACK-CLK-WEIGHT called "OpStackClkWeight" ∷
-    OP-STACK-IB1-WEIGHT called "OpStackIb1Weight" ∷
-    OP-STACK-POINTER-WEIGHT called "OpStackPointerWeight" ∷
-    OP-STACK-FIRST-UNDERFLOW-ELEMENT-WEIGHT called "OpStackFirstUnderflowElementWeight" ∷
-    RAM-CLK-WEIGHT called "RamClkWeight" ∷
-    RAM-POINTER-WEIGHT called "RamPointerWeight" ∷
-    RAM-VALUE-WEIGHT called "RamValueWeight" ∷
-    RAM-INSTRUCTION-TYPE-WEIGHT called "RamInstructionTypeWeight" ∷
-    JUMP-STACK-CLK-WEIGHT called "JumpStackClkWeight" ∷
-    JUMP-STACK-CI-WEIGHT called "JumpStackCiWeight" ∷
-    JUMP-STACK-JSP-WEIGHT called "JumpStackJspWeight" ∷
-    JUMP-STACK-JSO-WEIGHT called "JumpStackJsoWeight" ∷
-    JUMP-STACK-JSD-WEIGHT called "JumpStackJsdWeight" ∷
-    []
-
-abbrev pub hashing : List Place
-hashing =
-    PROGRAM-ATTESTATION-PREPARE-CHUNK-INDETERMINATE called "ProgramAttestationPrepareChunkIndeterminate" ∷
-    PROGRAM-ATTESTATION-SEND-CHUNK-INDETERMINATE called "ProgramAttestationSendChunkIndeterminate" ∷
-    HASH-CI-WEIGHT called "HashCIWeight" ∷
-    STACK-WEIGHT0 called "StackWeight0" ∷
-    STACK-WEIGHT1 called "StackWeight1" ∷
-    STACK-WEIGHT2 called "StackWeight2" ∷
-    STACK-WEIGHT3 called "StackWeight3" ∷
-    STACK-WEIGHT4 called "StackWeight4" ∷
-    STACK-WEIGHT5 called "StackWeight5" ∷
-    STACK-WEIGHT6 called "StackWeight6" ∷
-    STACK-WEIGHT7 called "StackWeight7" ∷
-    STACK-WEIGHT8 called "StackWeight8" ∷
-    STACK-WEIGHT9 called "StackWeight9" ∷
-    STACK-WEIGHT10 called "StackWeight10" ∷
-    STACK-WEIGHT11 called "StackWeight11" ∷
-    STACK-WEIGHT12 called "StackWeight12" ∷
-    STACK-WEIGHT13 called "StackWeight13" ∷
-    STACK-WEIGHT14 called "StackWeight14" ∷
-    STACK-WEIGHT15 called "StackWeight15" ∷
-    []
-
-abbrev pub lookups : List Place
-lookups =
-    HASH-CASCADE-LOOKUP-INDETERMINATE called "HashCascadeLookupIndeterminate" ∷
-    HASH-CASCADE-LOOK-IN-WEIGHT called "HashCascadeLookInWeight" ∷
-    HASH-CASCADE-LOOK-OUT-WEIGHT called "HashCascadeLookOutWeight" ∷
-    CASCADE-LOOKUP-INDETERMINATE called "CascadeLookupIndeterminate" ∷
-    LOOKUP-TABLE-INPUT-WEIGHT called "LookupTableInputWeight" ∷
-    LOOKUP-TABLE-OUTPUT-WEIGHT called "LookupTableOutputWeight" ∷
-    LOOKUP-TABLE-PUBLIC-INDETERMINATE called "LookupTablePublicIndeterminate" ∷
-    U32-LHS-WEIGHT called "U32LhsWeight" ∷
-    U32-RHS-WEIGHT called "U32RhsWeight" ∷
-    U32-CI-WEIGHT called "U32CiWeight" ∷
-    U32-RESULT-WEIGHT called "U32ResultWeight" ∷
-    []
-
-abbrev pub derived : List Place
-derived =
-    STANDARD-INPUT-TERMINAL called "StandardInputTerminal" ∷
-    STANDARD-OUTPUT-TERMINAL called "StandardOutputTerminal" ∷
-    LOOKUP-TABLE-PUBLIC-TERMINAL called "LookupTablePublicTerminal" ∷
-    COMPRESSED-PROGRAM-DIGEST called "CompressedProgramDigest" ∷
-    []
-
-abbrev pub challenges : List Place
-challenges = indeterminates ++ weights ++ hashing ++ lookups ++ derived
 
 -- they count from 0, without a gap
 abbrev pub Counted : Type 0
-Counted = places challenges ≡ upTo COUNT
+Counted = challenges ≡ upTo COUNT

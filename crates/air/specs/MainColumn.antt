@@ -1,8 +1,7 @@
 -- The main columns' places in a row of the processor table.
 use mathlib.Core.Path.{_≡_}
-use mathlib.Core.List.{List, [], _∷_, _++_}
+use mathlib.Core.List.{List, [], _∷_}
 use Prim.Native.Nat.{ℕ}
-use Rattle.names.specs.Places.{Place, _called_, places}
 use Rattle.air.specs.Count.{upTo}
 
 abbrev pub MAIN-WIDTH : ℕ
@@ -125,61 +124,18 @@ HV5 = 37
 abbrev pub CLOCK-JUMP-DIFFERENCE-LOOKUP-MULTIPLICITY : ℕ
 CLOCK-JUMP-DIFFERENCE-LOOKUP-MULTIPLICITY = 38
 
--- by the Rust's names, in the order of `ProcessorMainColumn`
-abbrev pub registers : List Place
-registers =
-    CLK called "CLK" ∷
-    IS-PADDING called "IsPadding" ∷
-    IP called "IP" ∷
-    CI called "CI" ∷
-    NIA called "NIA" ∷
-    IB0 called "IB0" ∷
-    IB1 called "IB1" ∷
-    IB2 called "IB2" ∷
-    IB3 called "IB3" ∷
-    IB4 called "IB4" ∷
-    IB5 called "IB5" ∷
-    IB6 called "IB6" ∷
-    JSP called "JSP" ∷
-    JSO called "JSO" ∷
-    JSD called "JSD" ∷
+-- in the order of `ProcessorMainColumn`
+abbrev pub columns : List ℕ
+columns =
+    CLK ∷ IS-PADDING ∷ IP ∷ CI ∷ NIA ∷
+    IB0 ∷ IB1 ∷ IB2 ∷ IB3 ∷ IB4 ∷ IB5 ∷ IB6 ∷
+    JSP ∷ JSO ∷ JSD ∷
+    ST0 ∷ ST1 ∷ ST2 ∷ ST3 ∷ ST4 ∷ ST5 ∷ ST6 ∷ ST7 ∷ ST8 ∷ ST9 ∷ ST10 ∷ ST11 ∷ ST12 ∷ ST13 ∷ ST14 ∷ ST15 ∷
+    OP-STACK-POINTER ∷
+    HV0 ∷ HV1 ∷ HV2 ∷ HV3 ∷ HV4 ∷ HV5 ∷
+    CLOCK-JUMP-DIFFERENCE-LOOKUP-MULTIPLICITY ∷
     []
-
-abbrev pub stack : List Place
-stack =
-    ST0 called "ST0" ∷
-    ST1 called "ST1" ∷
-    ST2 called "ST2" ∷
-    ST3 called "ST3" ∷
-    ST4 called "ST4" ∷
-    ST5 called "ST5" ∷
-    ST6 called "ST6" ∷
-    ST7 called "ST7" ∷
-    ST8 called "ST8" ∷
-    ST9 called "ST9" ∷
-    ST10 called "ST10" ∷
-    ST11 called "ST11" ∷
-    ST12 called "ST12" ∷
-    ST13 called "ST13" ∷
-    ST14 called "ST14" ∷
-    ST15 called "ST15" ∷
-    []
-
-abbrev pub others : List Place
-others =
-    OP-STACK-POINTER called "OpStackPointer" ∷
-    HV0 called "HV0" ∷
-    HV1 called "HV1" ∷
-    HV2 called "HV2" ∷
-    HV3 called "HV3" ∷
-    HV4 called "HV4" ∷
-    HV5 called "HV5" ∷
-    CLOCK-JUMP-DIFFERENCE-LOOKUP-MULTIPLICITY called "ClockJumpDifferenceLookupMultiplicity" ∷
-    []
-
-abbrev pub columns : List Place
-columns = registers ++ stack ++ others
 
 -- they count from 0, without a gap
 abbrev pub Counted : Type 0
-Counted = places columns ≡ upTo MAIN-WIDTH
+Counted = columns ≡ upTo MAIN-WIDTH

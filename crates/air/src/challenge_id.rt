@@ -1,9 +1,7 @@
 // The challenges, in the order of the record: the sampled ones, then those derived from them.
 use crate::ChallengeId;
-use names::Name;
 ghost use mathlib.Core.Path.{_≡_};
-ghost use Rattle.names.specs.Places.{nameFrom, nameAt};
-ghost use Rattle.air.specs.ChallengeId.{challenges, indeterminates, weights, hashing, lookups, derived};
+ghost use Rattle.air.specs.ChallengeId.{challenges};
 
 impl ChallengeId {
     pub const COUNT: usize = 63;
@@ -136,220 +134,74 @@ impl ChallengeId {
 
     pub const COMPRESSED_PROGRAM_DIGEST: ChallengeId = ChallengeId(62);
 
-    // The name in the Rust, and no text for a number that is no place.
-    pub fn name(self) -> Name
-        ensures { λ r. ⌜ r ≡ nameAt challenges (self .0) ⌝ }
+    // Each challenge once, in the order of the record.
+    pub fn all() -> [usize; ChallengeId::COUNT]
+        ensures { λ r. ⌜ r ≡ challenges ⌝ }
     {
-        let at = self.0;
-        let n = Name::of(b"");
-        let n = indeterminates(n, at);
-        let n = weights(n, at);
-        let n = hashing(n, at);
-        let n = lookups(n, at);
-        derived(n, at)
+        [
+            ChallengeId::COMPRESS_PROGRAM_DIGEST_INDETERMINATE.0,
+            ChallengeId::STANDARD_INPUT_INDETERMINATE.0,
+            ChallengeId::STANDARD_OUTPUT_INDETERMINATE.0,
+            ChallengeId::INSTRUCTION_LOOKUP_INDETERMINATE.0,
+            ChallengeId::HASH_INPUT_INDETERMINATE.0,
+            ChallengeId::HASH_DIGEST_INDETERMINATE.0,
+            ChallengeId::SPONGE_INDETERMINATE.0,
+            ChallengeId::OP_STACK_INDETERMINATE.0,
+            ChallengeId::RAM_INDETERMINATE.0,
+            ChallengeId::JUMP_STACK_INDETERMINATE.0,
+            ChallengeId::U32_INDETERMINATE.0,
+            ChallengeId::CLOCK_JUMP_DIFFERENCE_LOOKUP_INDETERMINATE.0,
+            ChallengeId::RAM_TABLE_BEZOUT_RELATION_INDETERMINATE.0,
+            ChallengeId::PROGRAM_ADDRESS_WEIGHT.0,
+            ChallengeId::PROGRAM_INSTRUCTION_WEIGHT.0,
+            ChallengeId::PROGRAM_NEXT_INSTRUCTION_WEIGHT.0,
+            ChallengeId::OP_STACK_CLK_WEIGHT.0,
+            ChallengeId::OP_STACK_IB1_WEIGHT.0,
+            ChallengeId::OP_STACK_POINTER_WEIGHT.0,
+            ChallengeId::OP_STACK_FIRST_UNDERFLOW_ELEMENT_WEIGHT.0,
+            ChallengeId::RAM_CLK_WEIGHT.0,
+            ChallengeId::RAM_POINTER_WEIGHT.0,
+            ChallengeId::RAM_VALUE_WEIGHT.0,
+            ChallengeId::RAM_INSTRUCTION_TYPE_WEIGHT.0,
+            ChallengeId::JUMP_STACK_CLK_WEIGHT.0,
+            ChallengeId::JUMP_STACK_CI_WEIGHT.0,
+            ChallengeId::JUMP_STACK_JSP_WEIGHT.0,
+            ChallengeId::JUMP_STACK_JSO_WEIGHT.0,
+            ChallengeId::JUMP_STACK_JSD_WEIGHT.0,
+            ChallengeId::PROGRAM_ATTESTATION_PREPARE_CHUNK_INDETERMINATE.0,
+            ChallengeId::PROGRAM_ATTESTATION_SEND_CHUNK_INDETERMINATE.0,
+            ChallengeId::HASH_CI_WEIGHT.0,
+            ChallengeId::STACK_WEIGHT0.0,
+            ChallengeId::STACK_WEIGHT1.0,
+            ChallengeId::STACK_WEIGHT2.0,
+            ChallengeId::STACK_WEIGHT3.0,
+            ChallengeId::STACK_WEIGHT4.0,
+            ChallengeId::STACK_WEIGHT5.0,
+            ChallengeId::STACK_WEIGHT6.0,
+            ChallengeId::STACK_WEIGHT7.0,
+            ChallengeId::STACK_WEIGHT8.0,
+            ChallengeId::STACK_WEIGHT9.0,
+            ChallengeId::STACK_WEIGHT10.0,
+            ChallengeId::STACK_WEIGHT11.0,
+            ChallengeId::STACK_WEIGHT12.0,
+            ChallengeId::STACK_WEIGHT13.0,
+            ChallengeId::STACK_WEIGHT14.0,
+            ChallengeId::STACK_WEIGHT15.0,
+            ChallengeId::HASH_CASCADE_LOOKUP_INDETERMINATE.0,
+            ChallengeId::HASH_CASCADE_LOOK_IN_WEIGHT.0,
+            ChallengeId::HASH_CASCADE_LOOK_OUT_WEIGHT.0,
+            ChallengeId::CASCADE_LOOKUP_INDETERMINATE.0,
+            ChallengeId::LOOKUP_TABLE_INPUT_WEIGHT.0,
+            ChallengeId::LOOKUP_TABLE_OUTPUT_WEIGHT.0,
+            ChallengeId::LOOKUP_TABLE_PUBLIC_INDETERMINATE.0,
+            ChallengeId::U32_LHS_WEIGHT.0,
+            ChallengeId::U32_RHS_WEIGHT.0,
+            ChallengeId::U32_CI_WEIGHT.0,
+            ChallengeId::U32_RESULT_WEIGHT.0,
+            ChallengeId::STANDARD_INPUT_TERMINAL.0,
+            ChallengeId::STANDARD_OUTPUT_TERMINAL.0,
+            ChallengeId::LOOKUP_TABLE_PUBLIC_TERMINAL.0,
+            ChallengeId::COMPRESSED_PROGRAM_DIGEST.0,
+        ]
     }
-}
-
-fn indeterminates(n: Name, at: usize) -> Name
-    ensures { λ r. ⌜ r ≡ nameFrom n indeterminates at ⌝ }
-{
-    let n = n.or(
-        b"CompressProgramDigestIndeterminate",
-        at == ChallengeId::COMPRESS_PROGRAM_DIGEST_INDETERMINATE.0,
-    );
-    let n = n.or(
-        b"StandardInputIndeterminate",
-        at == ChallengeId::STANDARD_INPUT_INDETERMINATE.0,
-    );
-    let n = n.or(
-        b"StandardOutputIndeterminate",
-        at == ChallengeId::STANDARD_OUTPUT_INDETERMINATE.0,
-    );
-    let n = n.or(
-        b"InstructionLookupIndeterminate",
-        at == ChallengeId::INSTRUCTION_LOOKUP_INDETERMINATE.0,
-    );
-    let n = n.or(
-        b"HashInputIndeterminate",
-        at == ChallengeId::HASH_INPUT_INDETERMINATE.0,
-    );
-    let n = n.or(
-        b"HashDigestIndeterminate",
-        at == ChallengeId::HASH_DIGEST_INDETERMINATE.0,
-    );
-    let n = n.or(
-        b"SpongeIndeterminate",
-        at == ChallengeId::SPONGE_INDETERMINATE.0,
-    );
-    let n = n.or(
-        b"OpStackIndeterminate",
-        at == ChallengeId::OP_STACK_INDETERMINATE.0,
-    );
-    let n = n.or(b"RamIndeterminate", at == ChallengeId::RAM_INDETERMINATE.0);
-    let n = n.or(
-        b"JumpStackIndeterminate",
-        at == ChallengeId::JUMP_STACK_INDETERMINATE.0,
-    );
-    let n = n.or(b"U32Indeterminate", at == ChallengeId::U32_INDETERMINATE.0);
-    let n = n.or(
-        b"ClockJumpDifferenceLookupIndeterminate",
-        at == ChallengeId::CLOCK_JUMP_DIFFERENCE_LOOKUP_INDETERMINATE.0,
-    );
-    let n = n.or(
-        b"RamTableBezoutRelationIndeterminate",
-        at == ChallengeId::RAM_TABLE_BEZOUT_RELATION_INDETERMINATE.0,
-    );
-    n
-}
-
-fn weights(n: Name, at: usize) -> Name
-    ensures { λ r. ⌜ r ≡ nameFrom n weights at ⌝ }
-{
-    let n = n.or(
-        b"ProgramAddressWeight",
-        at == ChallengeId::PROGRAM_ADDRESS_WEIGHT.0,
-    );
-    let n = n.or(
-        b"ProgramInstructionWeight",
-        at == ChallengeId::PROGRAM_INSTRUCTION_WEIGHT.0,
-    );
-    let n = n.or(
-        b"ProgramNextInstructionWeight",
-        at == ChallengeId::PROGRAM_NEXT_INSTRUCTION_WEIGHT.0,
-    );
-    let n = n.or(
-        b"OpStackClkWeight",
-        at == ChallengeId::OP_STACK_CLK_WEIGHT.0,
-    );
-    let n = n.or(
-        b"OpStackIb1Weight",
-        at == ChallengeId::OP_STACK_IB1_WEIGHT.0,
-    );
-    let n = n.or(
-        b"OpStackPointerWeight",
-        at == ChallengeId::OP_STACK_POINTER_WEIGHT.0,
-    );
-    let n = n.or(
-        b"OpStackFirstUnderflowElementWeight",
-        at == ChallengeId::OP_STACK_FIRST_UNDERFLOW_ELEMENT_WEIGHT.0,
-    );
-    let n = n.or(b"RamClkWeight", at == ChallengeId::RAM_CLK_WEIGHT.0);
-    let n = n.or(b"RamPointerWeight", at == ChallengeId::RAM_POINTER_WEIGHT.0);
-    let n = n.or(b"RamValueWeight", at == ChallengeId::RAM_VALUE_WEIGHT.0);
-    let n = n.or(
-        b"RamInstructionTypeWeight",
-        at == ChallengeId::RAM_INSTRUCTION_TYPE_WEIGHT.0,
-    );
-    let n = n.or(
-        b"JumpStackClkWeight",
-        at == ChallengeId::JUMP_STACK_CLK_WEIGHT.0,
-    );
-    let n = n.or(
-        b"JumpStackCiWeight",
-        at == ChallengeId::JUMP_STACK_CI_WEIGHT.0,
-    );
-    let n = n.or(
-        b"JumpStackJspWeight",
-        at == ChallengeId::JUMP_STACK_JSP_WEIGHT.0,
-    );
-    let n = n.or(
-        b"JumpStackJsoWeight",
-        at == ChallengeId::JUMP_STACK_JSO_WEIGHT.0,
-    );
-    let n = n.or(
-        b"JumpStackJsdWeight",
-        at == ChallengeId::JUMP_STACK_JSD_WEIGHT.0,
-    );
-    n
-}
-
-fn hashing(n: Name, at: usize) -> Name
-    ensures { λ r. ⌜ r ≡ nameFrom n hashing at ⌝ }
-{
-    let n = n.or(
-        b"ProgramAttestationPrepareChunkIndeterminate",
-        at == ChallengeId::PROGRAM_ATTESTATION_PREPARE_CHUNK_INDETERMINATE.0,
-    );
-    let n = n.or(
-        b"ProgramAttestationSendChunkIndeterminate",
-        at == ChallengeId::PROGRAM_ATTESTATION_SEND_CHUNK_INDETERMINATE.0,
-    );
-    let n = n.or(b"HashCIWeight", at == ChallengeId::HASH_CI_WEIGHT.0);
-    let n = n.or(b"StackWeight0", at == ChallengeId::STACK_WEIGHT0.0);
-    let n = n.or(b"StackWeight1", at == ChallengeId::STACK_WEIGHT1.0);
-    let n = n.or(b"StackWeight2", at == ChallengeId::STACK_WEIGHT2.0);
-    let n = n.or(b"StackWeight3", at == ChallengeId::STACK_WEIGHT3.0);
-    let n = n.or(b"StackWeight4", at == ChallengeId::STACK_WEIGHT4.0);
-    let n = n.or(b"StackWeight5", at == ChallengeId::STACK_WEIGHT5.0);
-    let n = n.or(b"StackWeight6", at == ChallengeId::STACK_WEIGHT6.0);
-    let n = n.or(b"StackWeight7", at == ChallengeId::STACK_WEIGHT7.0);
-    let n = n.or(b"StackWeight8", at == ChallengeId::STACK_WEIGHT8.0);
-    let n = n.or(b"StackWeight9", at == ChallengeId::STACK_WEIGHT9.0);
-    let n = n.or(b"StackWeight10", at == ChallengeId::STACK_WEIGHT10.0);
-    let n = n.or(b"StackWeight11", at == ChallengeId::STACK_WEIGHT11.0);
-    let n = n.or(b"StackWeight12", at == ChallengeId::STACK_WEIGHT12.0);
-    let n = n.or(b"StackWeight13", at == ChallengeId::STACK_WEIGHT13.0);
-    let n = n.or(b"StackWeight14", at == ChallengeId::STACK_WEIGHT14.0);
-    let n = n.or(b"StackWeight15", at == ChallengeId::STACK_WEIGHT15.0);
-    n
-}
-
-fn lookups(n: Name, at: usize) -> Name
-    ensures { λ r. ⌜ r ≡ nameFrom n lookups at ⌝ }
-{
-    let n = n.or(
-        b"HashCascadeLookupIndeterminate",
-        at == ChallengeId::HASH_CASCADE_LOOKUP_INDETERMINATE.0,
-    );
-    let n = n.or(
-        b"HashCascadeLookInWeight",
-        at == ChallengeId::HASH_CASCADE_LOOK_IN_WEIGHT.0,
-    );
-    let n = n.or(
-        b"HashCascadeLookOutWeight",
-        at == ChallengeId::HASH_CASCADE_LOOK_OUT_WEIGHT.0,
-    );
-    let n = n.or(
-        b"CascadeLookupIndeterminate",
-        at == ChallengeId::CASCADE_LOOKUP_INDETERMINATE.0,
-    );
-    let n = n.or(
-        b"LookupTableInputWeight",
-        at == ChallengeId::LOOKUP_TABLE_INPUT_WEIGHT.0,
-    );
-    let n = n.or(
-        b"LookupTableOutputWeight",
-        at == ChallengeId::LOOKUP_TABLE_OUTPUT_WEIGHT.0,
-    );
-    let n = n.or(
-        b"LookupTablePublicIndeterminate",
-        at == ChallengeId::LOOKUP_TABLE_PUBLIC_INDETERMINATE.0,
-    );
-    let n = n.or(b"U32LhsWeight", at == ChallengeId::U32_LHS_WEIGHT.0);
-    let n = n.or(b"U32RhsWeight", at == ChallengeId::U32_RHS_WEIGHT.0);
-    let n = n.or(b"U32CiWeight", at == ChallengeId::U32_CI_WEIGHT.0);
-    let n = n.or(b"U32ResultWeight", at == ChallengeId::U32_RESULT_WEIGHT.0);
-    n
-}
-
-fn derived(n: Name, at: usize) -> Name
-    ensures { λ r. ⌜ r ≡ nameFrom n derived at ⌝ }
-{
-    let n = n.or(
-        b"StandardInputTerminal",
-        at == ChallengeId::STANDARD_INPUT_TERMINAL.0,
-    );
-    let n = n.or(
-        b"StandardOutputTerminal",
-        at == ChallengeId::STANDARD_OUTPUT_TERMINAL.0,
-    );
-    let n = n.or(
-        b"LookupTablePublicTerminal",
-        at == ChallengeId::LOOKUP_TABLE_PUBLIC_TERMINAL.0,
-    );
-    let n = n.or(
-        b"CompressedProgramDigest",
-        at == ChallengeId::COMPRESSED_PROGRAM_DIGEST.0,
-    );
-    n
 }

@@ -1,9 +1,7 @@
 // The main columns, in the order of the row.
 use crate::MainIndex;
-use names::Name;
 ghost use mathlib.Core.Path.{_≡_};
-ghost use Rattle.names.specs.Places.{nameFrom, nameAt};
-ghost use Rattle.air.specs.MainColumn.{columns, registers, stack, others};
+ghost use Rattle.air.specs.MainColumn.{columns};
 
 impl MainIndex {
     pub const COUNT: usize = 39;
@@ -86,74 +84,50 @@ impl MainIndex {
 
     pub const CLOCK_JUMP_DIFFERENCE_LOOKUP_MULTIPLICITY: MainIndex = MainIndex(38);
 
-    // The name in the Rust, and no text for a number that is no place.
-    pub fn name(self) -> Name
-        ensures { λ r. ⌜ r ≡ nameAt columns (self .0) ⌝ }
+    // Each column once, in the order of the row.
+    pub fn all() -> [usize; MainIndex::COUNT]
+        ensures { λ r. ⌜ r ≡ columns ⌝ }
     {
-        let at = self.0;
-        let n = Name::of(b"");
-        let n = registers(n, at);
-        let n = stack(n, at);
-        others(n, at)
+        [
+            MainIndex::CLK.0,
+            MainIndex::IS_PADDING.0,
+            MainIndex::IP.0,
+            MainIndex::CI.0,
+            MainIndex::NIA.0,
+            MainIndex::IB0.0,
+            MainIndex::IB1.0,
+            MainIndex::IB2.0,
+            MainIndex::IB3.0,
+            MainIndex::IB4.0,
+            MainIndex::IB5.0,
+            MainIndex::IB6.0,
+            MainIndex::JSP.0,
+            MainIndex::JSO.0,
+            MainIndex::JSD.0,
+            MainIndex::ST0.0,
+            MainIndex::ST1.0,
+            MainIndex::ST2.0,
+            MainIndex::ST3.0,
+            MainIndex::ST4.0,
+            MainIndex::ST5.0,
+            MainIndex::ST6.0,
+            MainIndex::ST7.0,
+            MainIndex::ST8.0,
+            MainIndex::ST9.0,
+            MainIndex::ST10.0,
+            MainIndex::ST11.0,
+            MainIndex::ST12.0,
+            MainIndex::ST13.0,
+            MainIndex::ST14.0,
+            MainIndex::ST15.0,
+            MainIndex::OP_STACK_POINTER.0,
+            MainIndex::HV0.0,
+            MainIndex::HV1.0,
+            MainIndex::HV2.0,
+            MainIndex::HV3.0,
+            MainIndex::HV4.0,
+            MainIndex::HV5.0,
+            MainIndex::CLOCK_JUMP_DIFFERENCE_LOOKUP_MULTIPLICITY.0,
+        ]
     }
-}
-
-fn registers(n: Name, at: usize) -> Name
-    ensures { λ r. ⌜ r ≡ nameFrom n registers at ⌝ }
-{
-    let n = n.or(b"CLK", at == MainIndex::CLK.0);
-    let n = n.or(b"IsPadding", at == MainIndex::IS_PADDING.0);
-    let n = n.or(b"IP", at == MainIndex::IP.0);
-    let n = n.or(b"CI", at == MainIndex::CI.0);
-    let n = n.or(b"NIA", at == MainIndex::NIA.0);
-    let n = n.or(b"IB0", at == MainIndex::IB0.0);
-    let n = n.or(b"IB1", at == MainIndex::IB1.0);
-    let n = n.or(b"IB2", at == MainIndex::IB2.0);
-    let n = n.or(b"IB3", at == MainIndex::IB3.0);
-    let n = n.or(b"IB4", at == MainIndex::IB4.0);
-    let n = n.or(b"IB5", at == MainIndex::IB5.0);
-    let n = n.or(b"IB6", at == MainIndex::IB6.0);
-    let n = n.or(b"JSP", at == MainIndex::JSP.0);
-    let n = n.or(b"JSO", at == MainIndex::JSO.0);
-    let n = n.or(b"JSD", at == MainIndex::JSD.0);
-    n
-}
-
-fn stack(n: Name, at: usize) -> Name
-    ensures { λ r. ⌜ r ≡ nameFrom n stack at ⌝ }
-{
-    let n = n.or(b"ST0", at == MainIndex::ST0.0);
-    let n = n.or(b"ST1", at == MainIndex::ST1.0);
-    let n = n.or(b"ST2", at == MainIndex::ST2.0);
-    let n = n.or(b"ST3", at == MainIndex::ST3.0);
-    let n = n.or(b"ST4", at == MainIndex::ST4.0);
-    let n = n.or(b"ST5", at == MainIndex::ST5.0);
-    let n = n.or(b"ST6", at == MainIndex::ST6.0);
-    let n = n.or(b"ST7", at == MainIndex::ST7.0);
-    let n = n.or(b"ST8", at == MainIndex::ST8.0);
-    let n = n.or(b"ST9", at == MainIndex::ST9.0);
-    let n = n.or(b"ST10", at == MainIndex::ST10.0);
-    let n = n.or(b"ST11", at == MainIndex::ST11.0);
-    let n = n.or(b"ST12", at == MainIndex::ST12.0);
-    let n = n.or(b"ST13", at == MainIndex::ST13.0);
-    let n = n.or(b"ST14", at == MainIndex::ST14.0);
-    let n = n.or(b"ST15", at == MainIndex::ST15.0);
-    n
-}
-
-fn others(n: Name, at: usize) -> Name
-    ensures { λ r. ⌜ r ≡ nameFrom n others at ⌝ }
-{
-    let n = n.or(b"OpStackPointer", at == MainIndex::OP_STACK_POINTER.0);
-    let n = n.or(b"HV0", at == MainIndex::HV0.0);
-    let n = n.or(b"HV1", at == MainIndex::HV1.0);
-    let n = n.or(b"HV2", at == MainIndex::HV2.0);
-    let n = n.or(b"HV3", at == MainIndex::HV3.0);
-    let n = n.or(b"HV4", at == MainIndex::HV4.0);
-    let n = n.or(b"HV5", at == MainIndex::HV5.0);
-    let n = n.or(
-        b"ClockJumpDifferenceLookupMultiplicity",
-        at == MainIndex::CLOCK_JUMP_DIFFERENCE_LOOKUP_MULTIPLICITY.0,
-    );
-    n
 }

@@ -1,8 +1,6 @@
 // Triton VM's instructions.
-use names::Name;
 ghost use mathlib.Core.Path.{_≡_};
-ghost use Rattle.names.specs.Name.{named};
-ghost use Rattle.isa.specs.Instruction.{nameOf, opcodeOf, influenceOf};
+ghost use Rattle.isa.specs.Instruction.{opcodeOf, influenceOf};
 
 // An instruction with its argument.
 pub enum Instruction {
@@ -76,60 +74,6 @@ pub enum Influence {
     Grows(u64),
     Shrinks(u64),
     Keeps,
-}
-
-// The name in the Rust's assembly.
-pub fn name(i: Instruction) -> Name
-    ensures { λ r. ⌜ r ≡ named (nameOf i) ⌝ }
-{
-    match i {
-        Instruction::Push(_) => Name::of(b"push"),
-        Instruction::Pop(_) => Name::of(b"pop"),
-        Instruction::Divine(_) => Name::of(b"divine"),
-        Instruction::Pick(_) => Name::of(b"pick"),
-        Instruction::Place(_) => Name::of(b"place"),
-        Instruction::Dup(_) => Name::of(b"dup"),
-        Instruction::Swap(_) => Name::of(b"swap"),
-        Instruction::Halt => Name::of(b"halt"),
-        Instruction::Nop => Name::of(b"nop"),
-        Instruction::Skiz => Name::of(b"skiz"),
-        Instruction::Call(_) => Name::of(b"call"),
-        Instruction::Return => Name::of(b"return"),
-        Instruction::Recurse => Name::of(b"recurse"),
-        Instruction::RecurseOrReturn => Name::of(b"recurse_or_return"),
-        Instruction::Assert => Name::of(b"assert"),
-        Instruction::ReadMem(_) => Name::of(b"read_mem"),
-        Instruction::WriteMem(_) => Name::of(b"write_mem"),
-        Instruction::Hash => Name::of(b"hash"),
-        Instruction::AssertVector => Name::of(b"assert_vector"),
-        Instruction::SpongeInit => Name::of(b"sponge_init"),
-        Instruction::SpongeAbsorb => Name::of(b"sponge_absorb"),
-        Instruction::SpongeAbsorbMem => Name::of(b"sponge_absorb_mem"),
-        Instruction::SpongeSqueeze => Name::of(b"sponge_squeeze"),
-        Instruction::Add => Name::of(b"add"),
-        Instruction::AddI(_) => Name::of(b"addi"),
-        Instruction::Mul => Name::of(b"mul"),
-        Instruction::Invert => Name::of(b"invert"),
-        Instruction::Eq => Name::of(b"eq"),
-        Instruction::Split => Name::of(b"split"),
-        Instruction::Lt => Name::of(b"lt"),
-        Instruction::And => Name::of(b"and"),
-        Instruction::Xor => Name::of(b"xor"),
-        Instruction::Log2Floor => Name::of(b"log_2_floor"),
-        Instruction::Pow => Name::of(b"pow"),
-        Instruction::DivMod => Name::of(b"div_mod"),
-        Instruction::PopCount => Name::of(b"pop_count"),
-        Instruction::XxAdd => Name::of(b"xx_add"),
-        Instruction::XxMul => Name::of(b"xx_mul"),
-        Instruction::XInvert => Name::of(b"x_invert"),
-        Instruction::XbMul => Name::of(b"xb_mul"),
-        Instruction::ReadIo(_) => Name::of(b"read_io"),
-        Instruction::WriteIo(_) => Name::of(b"write_io"),
-        Instruction::MerkleStep => Name::of(b"merkle_step"),
-        Instruction::MerkleStepMem => Name::of(b"merkle_step_mem"),
-        Instruction::XxDotStep => Name::of(b"xx_dot_step"),
-        Instruction::XbDotStep => Name::of(b"xb_dot_step"),
-    }
 }
 
 // The instruction's first word.

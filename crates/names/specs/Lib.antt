@@ -1,3 +1,0 @@
--- Names as text, and lists of named places.
-pub mod Name
-pub mod Places
