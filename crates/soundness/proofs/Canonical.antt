@@ -100,7 +100,7 @@ module _ (weights : List XFieldElement) where
   ram-canonical prev curr =
       All-cond Canonical (isPadding curr) [] _ tt
       (if-read Canonical (instructionOf prev) _
-      (λ i. All-image Canonical (ramEntry weights prev (cond (eqb (opcodeOf i) 11) 0 1)) (λ access. weigh-canonical weights _) (ramAccesses i prev curr)))
+      (λ i. All-image Canonical (ramEntry weights (cell prev CLK) (cond (eqb (opcodeOf i) 11) 0 1)) (λ access. weigh-canonical weights _) (ramAccesses i prev curr)))
 
   hashInput-canonical : (row : List ℕ) → All Canonical (hashInputEntries weights row)
   unfolding hashInputEntries
