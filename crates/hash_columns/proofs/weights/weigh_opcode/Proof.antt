@@ -1,30 +1,24 @@
--- What is scaled is below p.
+-- One word more, and so at most one carry more.
 use borrow.Author.Needs.{needs}
-use Rattle.field.proofs.Laws.{scale-canonical}
+use mathlib.Core.Path.{_∙_}
+use Rattle.field.proofs.Totals.{more-few}
 use Rattle.hash_columns.proofs.weights.weigh_opcode.Statement.{statement}
 use Rattle.hash_columns.proofs.weights.weigh_opcode.Tie as tie
 
 opcode-requires : tie.Need-opcode-requires
 opcode-requires c κs = search needs
 
-array-copy-out-element-scale : tie.Need-array-copy-out-element-scale
-array-copy-out-element-scale c = search needs
+array-copy-out-weigh-more : tie.Need-array-copy-out-weigh-more
+array-copy-out-weigh-more c = search needs
 
-element-scale-requires : tie.Need-element-scale-requires
-element-scale-requires c κs = search needs
-
-element-add-requires : tie.Need-element-add-requires
-element-add-requires c κs = (rw (c .element-scale .ensures) (scale-canonical _ _), search needs)
+weigh-more-requires : tie.Need-weigh-more-requires
+weigh-more-requires c κs = search needs
 
 returns : tie.Need-returns
-returns c = rw (c .element-add .ensures, c .before .element-scale .ensures, c .before .before .before .opcode .ensures)
+returns c =
+    let coded = c .before .before in
+    (c .weigh-more .ensures .0 ∙ rw (coded .opcode .ensures), more-few 10 (coded .before .pre) (c .weigh-more .ensures .1))
 
 pub weigh-opcode-spec : {M : Type 1} → statement M
 weigh-opcode-spec =
-    tie.close
-    (tie.spec
-    opcode-requires
-    array-copy-out-element-scale
-    element-scale-requires
-    element-add-requires
-    returns)
+    tie.close (tie.spec opcode-requires array-copy-out-weigh-more weigh-more-requires returns)

@@ -1,2 +1,0 @@
--- What the entry functions are stated with.
-pub mod Weights
