@@ -1,15 +1,16 @@
 /*
  * Tealbobbin: the processor table of a Triton VM run and its eleven running-argument columns.
  *
- * A slice is a pointer and a count of its words (at `batch`, of its bytes). The pointer of an empty slice is not read and may be
- * NULL. A slice that is written shares no memory with another slice of the same call.
+ * A slice is two parameters, NAME and NAME_count: a pointer and how many words (at `batch`, bytes) it points to. The pointer of
+ * an empty slice is not read and may be NULL. A slice that is written shares no memory with another slice of the same call.
  *
- * Each function answers 0 or the number of a refusal: the first, in the order given at the function, whose condition holds.
- * Nothing is written on a refusal. No function keeps a pointer, allocates, or has state: calls on different slices may run
- * at the same time.
+ * Every function answers TEALBOBBIN_DONE or the number of a refusal: the first whose condition holds, in the order in which the
+ * function's comment lists them. Nothing is written on a refusal. Slices of any length and words of any value get an answer.
+ *
+ * No function allocates, keeps a pointer or has state. Calls may run at the same time unless one writes what another reads or
+ * writes.
  *
  * A base element is a word below p. An element is three words, the coefficient of X^0 first, modulo X^3 - X + 1.
- * "Long" means over TEALBOBBIN_LONG.
  */
 #ifndef TEALBOBBIN_H
 #define TEALBOBBIN_H
@@ -21,29 +22,14 @@
 extern "C" {
 #endif
 
-/* p = 2^64 - 2^32 + 1 */
-#define TEALBOBBIN_P UINT64_C(18446744069414584321)
-
-/* Numbers of words: an element, a map r -> a*r + b (a, then b), a program digest, the 59 sampled challenges, all 63. */
-#define TEALBOBBIN_ELEMENT 3
-#define TEALBOBBIN_MAP 6
-#define TEALBOBBIN_DIGEST 5
-#define TEALBOBBIN_SAMPLED 177
-#define TEALBOBBIN_CHALLENGES 189
-
-/*
- * Words a row: the main table, the auxiliary table, and the work that extension needs.
- * Main: CLK 0, IsPadding 1, IP 2, CI 3, NIA 4, IB0 to IB6 5 to 11, JSP 12, JSO 13, JSD 14, ST0 to ST15 15 to 30,
- * OpStackPointer 31, HV0 to HV5 32 to 37, lookup multiplicity 38.
- * Auxiliary, an element each: input, output, instruction, op stack, RAM, jump stack, hash input, hash digest, sponge, U32, clock.
- */
-#define TEALBOBBIN_MAIN_ROW 39
-#define TEALBOBBIN_AUX_ROW 33
-#define TEALBOBBIN_WORK_ROW 6
-
-#define TEALBOBBIN_LONG 4194304
+/* The Rust crate's Cargo.toml has the same version. */
+#define TEALBOBBIN_VERSION_MAJOR 0
+#define TEALBOBBIN_VERSION_MINOR 1
+#define TEALBOBBIN_VERSION_PATCH 0
+#define TEALBOBBIN_VERSION "0.1.0"
 
 enum tealbobbin_refusal {
+    TEALBOBBIN_DONE = 0,                 /* none */
     TEALBOBBIN_SLICE_LENGTH = 1,         /* a slice has the wrong length */
     TEALBOBBIN_WORD_NOT_BELOW_P = 2,     /* a word is not below p */
     TEALBOBBIN_ROW_COUNT = 3,            /* a number of rows is out of range */
@@ -55,18 +41,133 @@ enum tealbobbin_refusal {
     TEALBOBBIN_COMMAND_OUT_OF_PLACE = 9  /* a batch has a command out of place or too often, or lacks one */
 };
 
+/* p = 2^64 - 2^32 + 1 */
+#define TEALBOBBIN_P UINT64_C(18446744069414584321)
+
+/* Words of an element, and of a map r -> a*r + b: a, then b. */
+#define TEALBOBBIN_ELEMENT_WORDS 3
+#define TEALBOBBIN_MAP_WORDS 6
+
+/* Challenges, those of them that are sampled, and the words of each; words of a program digest. */
+#define TEALBOBBIN_CHALLENGE_COUNT 63
+#define TEALBOBBIN_SAMPLE_COUNT 59
+#define TEALBOBBIN_RECORD_WORDS 189
+#define TEALBOBBIN_SAMPLED_WORDS 177
+#define TEALBOBBIN_DIGEST_WORDS 5
+
+/* A row: words of the main table; elements, then words, of the auxiliary table; words of work in extension. */
+#define TEALBOBBIN_MAIN_WIDTH 39
+#define TEALBOBBIN_AUX_WIDTH 11
+#define TEALBOBBIN_AUX_WORDS 33
+#define TEALBOBBIN_WORK_WORDS 6
+
+/* The most rows of a table, items of a scan, words of a list, of input and of output. "Long" means more. */
+#define TEALBOBBIN_MAX_LEN 4194304
+
+/* Where a column stands in a row of the main table, counted in words. */
+enum tealbobbin_main_column {
+    TEALBOBBIN_MAIN_CLK = 0,
+    TEALBOBBIN_MAIN_IS_PADDING = 1,
+    TEALBOBBIN_MAIN_IP = 2,
+    TEALBOBBIN_MAIN_CI = 3,
+    TEALBOBBIN_MAIN_NIA = 4,
+    TEALBOBBIN_MAIN_IB0 = 5,
+    TEALBOBBIN_MAIN_IB1 = 6,
+    TEALBOBBIN_MAIN_IB2 = 7,
+    TEALBOBBIN_MAIN_IB3 = 8,
+    TEALBOBBIN_MAIN_IB4 = 9,
+    TEALBOBBIN_MAIN_IB5 = 10,
+    TEALBOBBIN_MAIN_IB6 = 11,
+    TEALBOBBIN_MAIN_JSP = 12,
+    TEALBOBBIN_MAIN_JSO = 13,
+    TEALBOBBIN_MAIN_JSD = 14,
+    TEALBOBBIN_MAIN_ST0 = 15,
+    TEALBOBBIN_MAIN_ST1 = 16,
+    TEALBOBBIN_MAIN_ST2 = 17,
+    TEALBOBBIN_MAIN_ST3 = 18,
+    TEALBOBBIN_MAIN_ST4 = 19,
+    TEALBOBBIN_MAIN_ST5 = 20,
+    TEALBOBBIN_MAIN_ST6 = 21,
+    TEALBOBBIN_MAIN_ST7 = 22,
+    TEALBOBBIN_MAIN_ST8 = 23,
+    TEALBOBBIN_MAIN_ST9 = 24,
+    TEALBOBBIN_MAIN_ST10 = 25,
+    TEALBOBBIN_MAIN_ST11 = 26,
+    TEALBOBBIN_MAIN_ST12 = 27,
+    TEALBOBBIN_MAIN_ST13 = 28,
+    TEALBOBBIN_MAIN_ST14 = 29,
+    TEALBOBBIN_MAIN_ST15 = 30,
+    TEALBOBBIN_MAIN_OP_STACK_POINTER = 31,
+    TEALBOBBIN_MAIN_HV0 = 32,
+    TEALBOBBIN_MAIN_HV1 = 33,
+    TEALBOBBIN_MAIN_HV2 = 34,
+    TEALBOBBIN_MAIN_HV3 = 35,
+    TEALBOBBIN_MAIN_HV4 = 36,
+    TEALBOBBIN_MAIN_HV5 = 37,
+    TEALBOBBIN_MAIN_CLOCK_JUMP_DIFFERENCE_LOOKUP_MULTIPLICITY = 38
+};
+
+/* Where a column stands in a row of the auxiliary table, counted in elements. */
+enum tealbobbin_aux_column {
+    TEALBOBBIN_AUX_INPUT_TABLE_EVAL_ARG = 0,
+    TEALBOBBIN_AUX_OUTPUT_TABLE_EVAL_ARG = 1,
+    TEALBOBBIN_AUX_INSTRUCTION_LOOKUP_CLIENT_LOG_DERIVATIVE = 2,
+    TEALBOBBIN_AUX_OP_STACK_TABLE_PERM_ARG = 3,
+    TEALBOBBIN_AUX_RAM_TABLE_PERM_ARG = 4,
+    TEALBOBBIN_AUX_JUMP_STACK_TABLE_PERM_ARG = 5,
+    TEALBOBBIN_AUX_HASH_INPUT_EVAL_ARG = 6,
+    TEALBOBBIN_AUX_HASH_DIGEST_EVAL_ARG = 7,
+    TEALBOBBIN_AUX_SPONGE_EVAL_ARG = 8,
+    TEALBOBBIN_AUX_U32_LOOKUP_CLIENT_LOG_DERIVATIVE = 9,
+    TEALBOBBIN_AUX_CLOCK_JUMP_DIFFERENCE_LOOKUP_SERVER_LOG_DERIVATIVE = 10
+};
+
 /*
- * Base elements: a + b, a - b, a * b, 1 / a modulo p, into `out`, 1 word.
- * 1 at another length of `out`; 2; the inverse then 6 on zero.
+ * The most bytes of a batch and the most that it brings: trace rows, words of these rows, differences in a list, input words,
+ * output words. The last four are also the lengths of the slices that tealbobbin_open fills.
+ */
+#define TEALBOBBIN_BATCH_MAX_BYTES 16384
+#define TEALBOBBIN_BATCH_MAX_ROWS 32
+#define TEALBOBBIN_BATCH_MAX_TRACE_WORDS 1248
+#define TEALBOBBIN_BATCH_MAX_DIFFERENCES 128
+#define TEALBOBBIN_BATCH_MAX_INPUT 64
+#define TEALBOBBIN_BATCH_MAX_OUTPUT 64
+
+/* Where each number stands in the counts of an opened batch, and how many there are. */
+enum tealbobbin_count {
+    TEALBOBBIN_COUNT_ROWS = 0,
+    TEALBOBBIN_COUNT_OP_STACK = 1,
+    TEALBOBBIN_COUNT_RAM = 2,
+    TEALBOBBIN_COUNT_JUMP_STACK = 3,
+    TEALBOBBIN_COUNT_INPUT = 4,
+    TEALBOBBIN_COUNT_OUTPUT = 5,
+    TEALBOBBIN_COUNTS = 6
+};
+
+/*
+ * Base elements: a + b, a - b, a * b modulo p, into `out`, 1 word.
+ *
+ * 1: `out` has another length.
+ * 2: a or b is not below p.
  */
 uint32_t tealbobbin_base_add(uint64_t a, uint64_t b, uint64_t *out, size_t out_count);
 uint32_t tealbobbin_base_sub(uint64_t a, uint64_t b, uint64_t *out, size_t out_count);
 uint32_t tealbobbin_base_mul(uint64_t a, uint64_t b, uint64_t *out, size_t out_count);
+
+/*
+ * The inverse of a base element, 1 / a modulo p, into `out`, 1 word.
+ *
+ * 1: `out` has another length.
+ * 2: a is not below p.
+ * 6: a is 0.
+ */
 uint32_t tealbobbin_base_inverse(uint64_t a, uint64_t *out, size_t out_count);
 
 /*
- * Elements: a + b, a - b, a * b, a base element k times a, 1 / a, into `out`. Each slice has 3 words.
- * 1 at another length; 2; the inverse then 6 on zero.
+ * Elements: a + b, a - b, a * b, into `out`. Each slice is an element, 3 words.
+ *
+ * 1: a slice has another length.
+ * 2: a word of `a` or `b` is not below p.
  */
 uint32_t tealbobbin_element_add(const uint64_t *a, size_t a_count, const uint64_t *b, size_t b_count,
                                 uint64_t *out, size_t out_count);
@@ -74,67 +175,109 @@ uint32_t tealbobbin_element_sub(const uint64_t *a, size_t a_count, const uint64_
                                 uint64_t *out, size_t out_count);
 uint32_t tealbobbin_element_mul(const uint64_t *a, size_t a_count, const uint64_t *b, size_t b_count,
                                 uint64_t *out, size_t out_count);
+
+/*
+ * A base element k times the element `a`, into `out`. Each slice is an element, 3 words.
+ *
+ * 1: a slice has another length.
+ * 2: k or a word of `a` is not below p.
+ */
 uint32_t tealbobbin_element_scale(uint64_t k, const uint64_t *a, size_t a_count, uint64_t *out, size_t out_count);
+
+/*
+ * The inverse of an element, 1 / a, into `out`. Each slice is an element, 3 words.
+ *
+ * 1: a slice has another length.
+ * 2: a word of `a` is not below p.
+ * 6: `a` is zero.
+ */
 uint32_t tealbobbin_element_inverse(const uint64_t *a, size_t a_count, uint64_t *out, size_t out_count);
 
 /*
- * The instruction of a row of the main table, 39 words. Into `out`, 2 words: 1 and the opcode, or 0 and 0 where CI and NIA
+ * The instruction of `row`, a row of the main table, 39 words. Into `out`, 2 words: 1 and the opcode, or 0 and 0 where CI and NIA
  * stand for no instruction.
- * 1 at another length of either; 2 in any word of the row.
+ *
+ * 1: `row` or `out` has another length.
+ * 2: a word of `row` is not below p.
  */
 uint32_t tealbobbin_decode(const uint64_t *row, size_t row_count, uint64_t *out, size_t out_count);
 
 /*
- * All 63 challenges into `record`, 189 words: the 59 that were sampled, 177 words, then those derived from them: the terminals
- * of input, output and byte table, and the compressed program digest, 5 words.
- * 1 at another length, or if `input` or `output` is long; 2.
+ * All challenges into `record`, 189 words: those of `sampled`, 177 words, in their order, then the four that are derived from
+ * them: the terminals of `input`, of `output` and of the byte table, and the compressed `digest`, 5 words. `input` and `output`
+ * are the words of the claim, and may be empty.
+ *
+ * 1: `sampled`, `digest` or `record` has another length, or `input` or `output` is long.
+ * 2: a word of `sampled`, `digest`, `input` or `output` is not below p.
  */
 uint32_t tealbobbin_challenges(const uint64_t *sampled, size_t sampled_count, const uint64_t *digest, size_t digest_count,
                                const uint64_t *input, size_t input_count, const uint64_t *output, size_t output_count,
                                uint64_t *record, size_t record_count);
 
 /*
- * Scans in place, by chunks of `chunk` items: each item becomes what the items up to and with it come to. An item is a map of
- * 6 words (the maps are applied first to last), or an element of 3 words. The result is the same at every chunk length.
- * 1 if `items` is not whole items, or long in items; 5 if `chunk` is 0; 2.
+ * Scans in place, by chunks of `chunk` items: each item becomes what the items up to and with it come to: maps applied first to
+ * last, products, sums. An item is a map of 6 words, or an element of 3. `items` may be empty. The result is the same at every
+ * chunk length.
+ *
+ * 1: `items` is not whole items, or long in items.
+ * 5: `chunk` is 0.
+ * 2: a word of `items` is not below p.
  */
 uint32_t tealbobbin_scan_maps(uint64_t *items, size_t items_count, size_t chunk);
 uint32_t tealbobbin_scan_products(uint64_t *items, size_t items_count, size_t chunk);
 uint32_t tealbobbin_scan_sums(uint64_t *items, size_t items_count, size_t chunk);
 
 /*
- * Copies the trace into the first rows of the main table; row c's lookup multiplicity (its last word) becomes how often c stands
- * in the three lists of clock jump differences. Later rows are untouched.
- * 1 if trace or table is not whole rows of 39 words, or a list is long; 3 if the table is long in rows or shorter than the trace;
- * 2 in trace or lists; 4 if a difference is not below the number of trace rows.
+ * Copies the rows of `trace` into the first rows of `table`, both rows of the main table, 39 words each; row c's lookup
+ * multiplicity, its last word, becomes how often c stands in `op_stack`, `ram` and `jump_stack`, the lists of clock jump
+ * differences. Later rows stay. The lists and `trace` may be empty.
+ *
+ * 1: `trace` or `table` is not whole rows, or a list is long.
+ * 3: `table` is long in rows, or has fewer than `trace`.
+ * 2: a word of `trace` or of a list is not below p.
+ * 4: a difference is not below the number of rows of `trace`.
  */
 uint32_t tealbobbin_fill(const uint64_t *trace, size_t trace_count, const uint64_t *op_stack, size_t op_stack_count,
                          const uint64_t *ram, size_t ram_count, const uint64_t *jump_stack, size_t jump_stack_count,
                          uint64_t *table, size_t table_count);
 
 /*
- * Makes the rows from `table_len` on padding: row table_len - 1 with IsPadding 1, multiplicity 0 and CLK the row's index. Then
- * row 1's multiplicity grows by the number of padding rows.
- * 1 unless the table is whole rows of 39 words; 3 if it has under 2 rows or is long in rows, or `table_len` is 0 or above them;
- * 2 in the first `table_len` rows.
+ * Makes the rows of `table`, 39 words each, from row `table_len` on padding: row table_len - 1 with IsPadding 1, multiplicity 0
+ * and CLK the row's index. Then row 1's multiplicity grows by the number of padding rows, modulo p.
+ *
+ * 1: `table` is not whole rows.
+ * 3: `table` has under 2 rows or is long in rows, or `table_len` is 0 or above its rows.
+ * 2: a word of the first `table_len` rows is not below p.
  */
 uint32_t tealbobbin_pad(uint64_t *table, size_t table_count, size_t table_len);
 
 /*
- * Writes the eleven columns of the main table into `aux`, row by row, 33 words a row. `work`, 6 words a row, ends as zeros.
- * The result is the same at every chunk length.
- * 1 unless `main` is whole rows of 39 words, `aux` 33 words a row, `challenges` 189 words and `work` 6 words a row; 3 if rows are
- * 0 or long; 5 if `chunk` is 0; 2 in main or challenges; 6 if an entry of a lookup column has denominator zero.
+ * Extends `main`, rows of 39 words, by chunks of `chunk` rows: writes the eleven columns into `aux`, row by row, 33 words a row.
+ * `challenges` is a record of 189 words. `work` is room for 6 words a row, and ends as zeros. The result is the same at every
+ * chunk length.
+ *
+ * 1: `main` is not whole rows, `aux` not 33 words or `work` not 6 for each, or `challenges` has another length.
+ * 3: `main` has no row or is long in rows.
+ * 5: `chunk` is 0.
+ * 2: a word of `main` or `challenges` is not below p.
+ * 6: an entry of the instruction, U32 or clock column has denominator zero.
  */
 uint32_t tealbobbin_extend(const uint64_t *main, size_t main_count, const uint64_t *challenges, size_t challenges_count,
                            size_t chunk, uint64_t *aux, size_t aux_count, uint64_t *work, size_t work_count);
 
 /*
- * Reads a batch of at most 16384 bytes into the slices lent: trace 1248 words (32 rows), each list of differences 128, sampled
- * challenges 177, program digest 5, input and output 64 each. Into `counts`, 6 words: how many trace rows, differences for op
- * stack, RAM and jump stack, input and output words were read. Words past the counts stay.
- * 1 over 16384 bytes or at another length; then for each command, left to right: 7, 8, 9, 3, 2; at the end 8 without an end
- * command, 9 if trace rows, challenges or digest are missing or bytes follow.
+ * Opens a batch of at most 16384 bytes; docs/BATCH.md has the format. Into the slices go, from their start on, `trace` (1248
+ * words): its rows; `op_stack`, `ram`, `jump_stack` (128 each): the clock jump differences; `sampled` (177) and `digest` (5), as
+ * tealbobbin_challenges takes them; `input` and `output` (64 each); `counts` (6): how many of each, by enum tealbobbin_count.
+ * Words past the counts stay.
+ *
+ * 1: `batch` has more bytes, or another slice has another length.
+ * Then for each command, from left to right:
+ * 7: the byte is no command.
+ * 8: the batch ends inside the operand; also, where a command should stand, without an end command.
+ * 9: the command is out of place or too often; at the end command, rows, challenges or digest are missing or bytes follow.
+ * 3: the number of rows is 0 or above 32.
+ * 2: a word of the operand is not below p.
  */
 uint32_t tealbobbin_open(const uint8_t *batch, size_t batch_count, uint64_t *trace, size_t trace_count,
                          uint64_t *op_stack, size_t op_stack_count, uint64_t *ram, size_t ram_count,

@@ -16,6 +16,7 @@ use std::sync::Once;
 use isa::instruction::Instruction;
 use ndarray::prelude::*;
 use num_traits::{ConstOne, ConstZero};
+pub use tealbobbin::processor::{AUX_WIDTH, MAIN_WIDTH};
 use twenty_first::prelude::*;
 
 use crate::aet::AlgebraicExecutionTrace;
@@ -40,9 +41,6 @@ mod prelude {
         pub output: Vec<BFieldElement>,
     }
 }
-
-pub const MAIN_WIDTH: usize = 39;
-pub const AUX_WIDTH: usize = 11;
 
 /// The original panicked.
 #[derive(Debug, Copy, Clone, Eq, PartialEq)]

@@ -1,11 +1,11 @@
 //! Main tables and challenges to compare and race on.
 
-use tealbobbin::field::{Element, P};
-use tealbobbin::plain::extension::column::{CI, CLK, IS_PADDING, MULTIPLICITY, NIA};
-use tealbobbin::plain::extension::opcode::*;
-use tealbobbin::plain::extension::{COLUMNS, Challenges, Kind};
-use tealbobbin::plain::pad;
-use tealbobbin::random::Random;
+use compare::plain::extension::column::{CI, CLK, IS_PADDING, MULTIPLICITY, NIA};
+use compare::plain::extension::opcode::*;
+use compare::plain::extension::{COLUMNS, Challenges, Kind};
+use compare::plain::{Element, pad};
+use compare::random::Random;
+use tealbobbin::field::P;
 
 pub const IB0: usize = 5;
 

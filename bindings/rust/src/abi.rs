@@ -1,6 +1,18 @@
-//! The exported functions over slices of any length: each answers 0 or the refusal's number.
-//! This module has all of the crate's unsafe code: each call hands over slices as their pointers and lengths, and what is written
-//! is lent by `&mut`, so that it shares no memory with the rest.
+//! The library's functions as they are: over slices of words of any length, each answering 0 or the number of a
+//! [`Refusal`](crate::Refusal). For tables that lie in memory as words, and for tests of what is refused; the other modules have
+//! the same functions over rows and elements.
+//!
+//! include/tealbobbin.h says of each how long its slices are, what it writes, and which numbers it answers in which order.
+
+// All of the crate's unsafe code is in this module: each call hands over slices as their pointers and lengths, and what is written
+// is lent by `&mut`, so that it shares no memory with the rest.
+
+use core::slice::{from_raw_parts, from_raw_parts_mut};
+
+use crate::challenges::{Challenges, SampledChallenges};
+use crate::field::Element;
+use crate::processor::{AuxRow, MainRow, AUX_WIDTH, MAIN_WIDTH};
+use crate::running_arguments::AffineMap;
 
 mod raw {
     extern "C" {
@@ -78,8 +90,46 @@ mod raw {
     }
 }
 
+/// What lies in memory as words and nothing else.
+///
+/// # Safety
+///
+/// The type is made of words alone, and any words make it.
+pub(crate) unsafe trait Words: Sized {}
+
+macro_rules! made_of_words {
+    ($($name:ident = $words:expr),* $(,)?) => { $(
+        // SAFETY: transparent over words, or elements one after the other
+        unsafe impl Words for $name {}
+        const _: () = assert!(size_of::<$name>() == $words * size_of::<u64>() && align_of::<$name>() == align_of::<u64>());
+    )* };
+}
+
+made_of_words! {
+    Element = 3,
+    AffineMap = 6,
+    MainRow = MAIN_WIDTH,
+    AuxRow = 3 * AUX_WIDTH,
+    SampledChallenges = SampledChallenges::WORDS,
+    Challenges = Challenges::WORDS,
+}
+
+/// The words that the items are made of.
+pub(crate) fn words<T: Words>(items: &[T]) -> &[u64] {
+    // SAFETY: by the trait, the same memory holds that many words
+    unsafe { from_raw_parts(items.as_ptr().cast(), size_of_val(items) / size_of::<u64>()) }
+}
+
+/// The words that the items are made of, to be written.
+pub(crate) fn words_mut<T: Words>(items: &mut [T]) -> &mut [u64] {
+    // SAFETY: by the trait, the same memory holds that many words, and any words may be written there
+    unsafe { from_raw_parts_mut(items.as_mut_ptr().cast(), size_of_val(items) / size_of::<u64>()) }
+}
+
 macro_rules! of_two_words {
-    ($($name:ident = $raw:ident),*) => { $(
+    ($($(#[$meaning:meta])* $name:ident = $raw:ident),* $(,)?) => { $(
+        $(#[$meaning])*
+        #[must_use]
         pub fn $name(a: u64, b: u64, out: &mut [u64]) -> u32 {
             unsafe { raw::$raw(a, b, out.as_mut_ptr(), out.len()) }
         }
@@ -87,7 +137,9 @@ macro_rules! of_two_words {
 }
 
 macro_rules! of_two_elements {
-    ($($name:ident = $raw:ident),*) => { $(
+    ($($(#[$meaning:meta])* $name:ident = $raw:ident),* $(,)?) => { $(
+        $(#[$meaning])*
+        #[must_use]
         pub fn $name(a: &[u64], b: &[u64], out: &mut [u64]) -> u32 {
             unsafe { raw::$raw(a.as_ptr(), a.len(), b.as_ptr(), b.len(), out.as_mut_ptr(), out.len()) }
         }
@@ -95,34 +147,68 @@ macro_rules! of_two_elements {
 }
 
 macro_rules! scans {
-    ($($name:ident = $raw:ident),*) => { $(
+    ($($(#[$meaning:meta])* $name:ident = $raw:ident),* $(,)?) => { $(
+        $(#[$meaning])*
+        #[must_use]
         pub fn $name(items: &mut [u64], chunk: usize) -> u32 {
             unsafe { raw::$raw(items.as_mut_ptr(), items.len(), chunk) }
         }
     )* };
 }
 
-of_two_words!(base_add = tealbobbin_base_add, base_sub = tealbobbin_base_sub, base_mul = tealbobbin_base_mul);
-of_two_elements!(element_add = tealbobbin_element_add, element_sub = tealbobbin_element_sub, element_mul = tealbobbin_element_mul);
-scans!(scan_maps = tealbobbin_scan_maps, scan_products = tealbobbin_scan_products, scan_sums = tealbobbin_scan_sums);
+of_two_words! {
+    /// a + b modulo p.
+    base_add = tealbobbin_base_add,
+    /// a - b modulo p.
+    base_sub = tealbobbin_base_sub,
+    /// a·b modulo p.
+    base_mul = tealbobbin_base_mul,
+}
 
+of_two_elements! {
+    /// a + b.
+    element_add = tealbobbin_element_add,
+    /// a - b.
+    element_sub = tealbobbin_element_sub,
+    /// a·b.
+    element_mul = tealbobbin_element_mul,
+}
+
+scans! {
+    /// Of maps, six words each.
+    scan_maps = tealbobbin_scan_maps,
+    /// Of factors, three words each.
+    scan_products = tealbobbin_scan_products,
+    /// Of terms, three words each.
+    scan_sums = tealbobbin_scan_sums,
+}
+
+/// 1 / a modulo p.
+#[must_use]
 pub fn base_inverse(a: u64, out: &mut [u64]) -> u32 {
     unsafe { raw::tealbobbin_base_inverse(a, out.as_mut_ptr(), out.len()) }
 }
 
+/// k·a.
+#[must_use]
 pub fn element_scale(k: u64, a: &[u64], out: &mut [u64]) -> u32 {
     unsafe { raw::tealbobbin_element_scale(k, a.as_ptr(), a.len(), out.as_mut_ptr(), out.len()) }
 }
 
+/// 1 / a.
+#[must_use]
 pub fn element_inverse(a: &[u64], out: &mut [u64]) -> u32 {
     unsafe { raw::tealbobbin_element_inverse(a.as_ptr(), a.len(), out.as_mut_ptr(), out.len()) }
 }
 
 /// Into `out` goes 1 and the opcode, or 0 and 0 where the row decodes to nothing.
+#[must_use]
 pub fn decode(row: &[u64], out: &mut [u64]) -> u32 {
     unsafe { raw::tealbobbin_decode(row.as_ptr(), row.len(), out.as_mut_ptr(), out.len()) }
 }
 
+/// All challenges into `record`.
+#[must_use]
 pub fn challenges(sampled: &[u64], digest: &[u64], input: &[u64], output: &[u64], record: &mut [u64]) -> u32 {
     unsafe {
         raw::tealbobbin_challenges(
@@ -140,6 +226,8 @@ pub fn challenges(sampled: &[u64], digest: &[u64], input: &[u64], output: &[u64]
     }
 }
 
+/// The trace and its multiplicities into `table`.
+#[must_use]
 pub fn fill(trace: &[u64], op_stack: &[u64], ram: &[u64], jump_stack: &[u64], table: &mut [u64]) -> u32 {
     unsafe {
         raw::tealbobbin_fill(
@@ -157,10 +245,14 @@ pub fn fill(trace: &[u64], op_stack: &[u64], ram: &[u64], jump_stack: &[u64], ta
     }
 }
 
+/// Padding into the rows of `table` from `table_len` on.
+#[must_use]
 pub fn pad(table: &mut [u64], table_len: usize) -> u32 {
     unsafe { raw::tealbobbin_pad(table.as_mut_ptr(), table.len(), table_len) }
 }
 
+/// The eleven columns of `main` into `aux`.
+#[must_use]
 pub fn extend(main: &[u64], challenges: &[u64], chunk: usize, aux: &mut [u64], work: &mut [u64]) -> u32 {
     unsafe {
         raw::tealbobbin_extend(
@@ -177,7 +269,9 @@ pub fn extend(main: &[u64], challenges: &[u64], chunk: usize, aux: &mut [u64], w
     }
 }
 
-/// The slices: trace, op stack, RAM, jump stack, sampled, digest, input, output. Into `counts` go rows, op stack, RAM, jump stack, input, output.
+/// A batch into the slices: trace, op stack, RAM, jump stack, sampled, digest, input, output. Into `counts` go those of rows, op
+/// stack, RAM, jump stack, input, output.
+#[must_use]
 pub fn open(bytes: &[u8], slices: [&mut [u64]; 8], counts: &mut [u64]) -> u32 {
     let [trace, op_stack, ram, jump_stack, sampled, digest, input, output] = slices;
     unsafe {

@@ -1,23 +1,38 @@
 //! Decoding of a row of the processor table.
 
-use crate::processor::Row;
+use crate::processor::MainRow;
 use crate::{abi, answer, Refusal};
 
-/// The opcode of the instruction that the row's CI and NIA stand for, if they stand for one.
+/// What a row's CI and NIA stand for.
+#[derive(Debug, Clone, Copy, PartialEq, Eq)]
+#[non_exhaustive]
+pub enum Decoded {
+    /// The instruction with this opcode.
+    Read(u64),
+    /// No instruction: an unknown opcode, or an argument that the instruction does not take.
+    Nothing,
+}
+
+/// What the row decodes to.
 ///
 /// ```
-/// let mut row = [0; 39];
-/// (row[3], row[4]) = (73, 5);
-/// assert_eq!(tealbobbin::isa::decode(&row), Ok(Some(73)));
-/// row[4] = 6;
-/// assert_eq!(tealbobbin::isa::decode(&row), Ok(None));
+/// use tealbobbin::air::ProcessorMainColumn::{CI, NIA};
+/// use tealbobbin::isa::{decode, Decoded};
+/// use tealbobbin::processor::MainRow;
+///
+/// // read_io reads 1 to 5 words
+/// let mut row = MainRow::ZERO;
+/// (row[CI], row[NIA]) = (73, 5);
+/// assert_eq!(decode(&row), Ok(Decoded::Read(73)));
+/// row[NIA] = 6;
+/// assert_eq!(decode(&row), Ok(Decoded::Nothing));
 /// ```
 ///
 /// # Errors
 ///
 /// [`Refusal::WordNotBelowP`] for any word of the row.
-pub fn decode(row: &Row) -> Result<Option<u64>, Refusal> {
+pub fn decode(row: &MainRow) -> Result<Decoded, Refusal> {
     let mut out = [0; 2];
-    let number = abi::decode(row, &mut out);
-    answer(number, (out[0] == 1).then_some(out[1]))
+    let number = abi::decode(&row.0, &mut out);
+    answer(number, if let [1, opcode] = out { Decoded::Read(opcode) } else { Decoded::Nothing })
 }

@@ -1,52 +1,60 @@
-//! Safe functions over Tealbobbin's static library: the processor table of a Triton VM run and its eleven running-argument columns.
+//! The processor table of a Triton VM run and its eleven running-argument columns: safe functions over Tealbobbin's static library,
+//! which is proved to meet its contracts on every input.
 //!
-//! Tables are lent as slices of words, row by row: 39 words a row of the main table ([`processor::Row`]), eleven elements a row of
-//! the auxiliary one ([`processor::AuxRow`]). Rows and elements are arrays, which the standard library's `as_flattened` lends as
-//! words. A function that turns its input away answers with a [`Refusal`] and has written nothing; none panics.
-//!
-//! One trace row of zeros, all sampled challenges 2, no input, no output, no clock jump differences; a table of two rows:
+//! From a batch, the bytes in which a client sends a run, to the eleven cells of the table's last row:
 //!
 //! ```
-//! use tealbobbin::field::base_inverse;
-//! use tealbobbin::processor::{extend, fill, pad, AuxRow, Differences, Row};
-//! use tealbobbin::{challenges, Refusal};
+//! use tealbobbin::air::ProcessorAuxColumn;
+//! use tealbobbin::batch::Batch;
+//! use tealbobbin::challenges::Challenges;
+//! use tealbobbin::field::Element;
+//! use tealbobbin::processor::{extend, fill, pad, AuxRow, MainRow, WORK_WIDTH};
 //!
-//! let challenges = challenges::derive(&[[2, 0, 0]; 59], &[0; 5], &[], &[])?;
+//! fn main() -> Result<(), Box<dyn std::error::Error>> {
+//! #   std::env::set_current_dir(concat!(env!("CARGO_MANIFEST_DIR"), "/../.."))?;
+//!     let batch = Batch::open(&std::fs::read("examples/document-01.batch")?)?;
+//!     let challenges = Challenges::new(batch.sampled(), batch.claim())?;
 //!
-//! let trace: Vec<Row> = vec![[0; 39]];
-//! let mut table: Vec<Row> = vec![[0; 39]; 2];
-//! fill(trace.as_flattened(), Differences::default(), table.as_flattened_mut())?;
-//! pad(table.as_flattened_mut(), trace.len())?;
+//!     let mut table = vec![MainRow::ZERO; batch.padded_height()];
+//!     fill(batch.trace(), batch.differences(), &mut table)?;
+//!     pad(&mut table, batch.trace().len())?;
 //!
-//! let mut aux: Vec<AuxRow> = vec![[[0; 3]; 11]; 2];
-//! let mut work = vec![0; 6 * 2];
-//! extend(table.as_flattened(), &challenges, 4, aux.as_flattened_mut().as_flattened_mut(), &mut work)?;
+//!     let mut aux = vec![AuxRow::ZERO; table.len()];
+//!     let mut work = vec![0; WORK_WIDTH * table.len()];
+//!     extend(&table, &challenges, 4, &mut aux, &mut work)?;
 //!
-//! // the last row's cells, each a base element
-//! let half = base_inverse(2)?;
-//! assert_eq!(aux[1], [1, 1, half, 1, 1, 0, 1, 1, 1, 0, 1].map(|c| [c, 0, 0]));
-//!
-//! // a table of two rows holds no trace of three
-//! let refusal = pad(table.as_flattened_mut(), 3).unwrap_err();
-//! assert_eq!(refusal, Refusal::RowCount);
-//! assert_eq!(refusal.to_string(), "refused 3: a number of rows is out of range");
-//! # Ok::<(), Refusal>(())
+//!     let last = aux[aux.len() - 1];
+//!     for column in ProcessorAuxColumn::ALL {
+//!         let Element([c0, c1, c2]) = last[column];
+//!         println!("{} {c0} {c1} {c2}", column.aux_index());
+//!     }
+//! #   assert_eq!(last.0, [1, 1, 9223372034707292161, 1, 1, 0, 1, 1, 1, 0, 1].map(Element::from));
+//!     Ok(())
+//! }
 //! ```
-#![deny(unsafe_code)]
-#![warn(missing_docs)]
+//!
+//! [`processor`] has an example of rows built by hand.
+//!
+//! A word is a `u64` below [`field::P`], an [`Element`](field::Element) three of them. Rows, elements and challenges are types over
+//! their words, which are lent to the library where they lie, without a copy. A function that turns its input away answers with a
+//! [`Refusal`] and has written nothing; none panics.
+//!
+//! The crate needs neither the standard library nor an allocator. It links `libtealbobbin.a` from the repository's
+//! `target/staticlib`, where `rt staticlib tealbobbin` writes it, or from the folder that the environment variable `TEALBOBBIN_LIB`
+//! names, a relative path being seen from the repository's top. `cargo check` and `cargo doc` do without it.
 
-#[doc(hidden)]
+#![no_std]
+#![deny(missing_docs, unsafe_code)]
+#![forbid(unsafe_op_in_unsafe_fn)]
+
 #[allow(unsafe_code)]
 pub mod abi;
+pub mod air;
 pub mod batch;
 pub mod challenges;
 pub mod field;
 pub mod isa;
-#[doc(hidden)]
-pub mod plain;
 pub mod processor;
-#[doc(hidden)]
-pub mod random;
 mod refusal;
 pub mod running_arguments;
 

@@ -1,21 +1,102 @@
-//! The processor's main table, rows of 39 words one after the other, and its auxiliary table, rows of eleven elements.
+//! The processor's main table and its auxiliary table.
 //!
-//! "Long" means over 4,194,304.
+//! Rows built by hand: read_io reads two words, then the program halts. The input column ends on the terminal of the claim's input.
+//!
+//! ```
+//! use tealbobbin::air::ChallengeId::{StandardInputIndeterminate, StandardInputTerminal};
+//! use tealbobbin::air::ProcessorAuxColumn::InputTableEvalArg;
+//! use tealbobbin::air::ProcessorMainColumn::{CI, CLK, NIA, ST0, ST1};
+//! use tealbobbin::challenges::{Challenges, Claim, SampledChallenges};
+//! use tealbobbin::field::Element;
+//! use tealbobbin::processor::{extend, fill, pad, AuxRow, ClkJumpDiffs, MainRow, WORK_WIDTH};
+//!
+//! let mut trace = [MainRow::ZERO; 2];
+//! (trace[0][CI], trace[0][NIA]) = (73, 2);
+//! (trace[1][CLK], trace[1][ST0], trace[1][ST1]) = (1, 5, 7);
+//!
+//! let mut sampled = SampledChallenges([Element::from(2); Challenges::SAMPLE_COUNT]);
+//! sampled[StandardInputIndeterminate] = Element::from(10);
+//! let claim = Claim { program_digest: [0; 5], input: &[7, 5], output: &[] };
+//! let challenges = Challenges::new(&sampled, claim)?;
+//!
+//! let mut table = [MainRow::ZERO; 4];
+//! fill(&trace, ClkJumpDiffs::default(), &mut table)?;
+//! pad(&mut table, trace.len())?;
+//!
+//! let mut aux = [AuxRow::ZERO; 4];
+//! let mut work = [0; 4 * WORK_WIDTH];
+//! extend(&table, &challenges, 4, &mut aux, &mut work)?;
+//! assert_eq!(aux[1][InputTableEvalArg], Element::from(175)); // (1·10 + 7)·10 + 5
+//! assert_eq!(aux[3][InputTableEvalArg], challenges[StandardInputTerminal]);
+//! # Ok::<(), tealbobbin::Refusal>(())
+//! ```
 
-use crate::challenges::Record;
+use core::ops::{Index, IndexMut};
+use core::slice::from_ref;
+
+use crate::abi::{self, words, words_mut};
+use crate::air::{ProcessorAuxColumn, ProcessorMainColumn};
+use crate::challenges::Challenges;
 use crate::field::Element;
-use crate::{abi, answer, Refusal};
+use crate::{answer, Refusal};
 
-/// A row of the main table: CLK, IsPadding, IP, CI, NIA, IB0 to IB6, JSP, JSO, JSD, ST0 to ST15, OpStackPointer, HV0 to HV5, and
-/// the lookup multiplicity.
-pub type Row = [u64; 39];
+/// Words of a row of the main table.
+pub const MAIN_WIDTH: usize = ProcessorMainColumn::COUNT;
 
-/// A row of the auxiliary table: input, output, instruction, op stack, RAM, jump stack, hash input, hash digest, sponge, U32, clock.
-pub type AuxRow = [Element; 11];
+/// Elements of a row of the auxiliary table.
+pub const AUX_WIDTH: usize = ProcessorAuxColumn::COUNT;
+
+/// Words of work that extension needs for each row.
+pub const WORK_WIDTH: usize = 6;
+
+/// The most rows of a table; also the most items of a scan, and words of a list of differences, of input or of output.
+pub const MAX_ROWS: usize = 4_194_304;
+
+/// A row of the main table: a word for each [`ProcessorMainColumn`].
+#[derive(Debug, Clone, Copy, PartialEq, Eq, Hash)]
+#[repr(transparent)]
+pub struct MainRow(pub [u64; MAIN_WIDTH]);
+
+/// A row of the auxiliary table: an element for each [`ProcessorAuxColumn`].
+#[derive(Debug, Clone, Copy, PartialEq, Eq, Hash)]
+#[repr(transparent)]
+pub struct AuxRow(pub [Element; AUX_WIDTH]);
+
+macro_rules! by_column {
+    ($row:ident, $cell:ident, $zero:expr, $column:ident, $index:ident) => {
+        impl $row {
+            /// Zeros.
+            pub const ZERO: $row = $row([$zero; $column::COUNT]);
+        }
+
+        impl Default for $row {
+            fn default() -> $row {
+                $row::ZERO
+            }
+        }
+
+        impl Index<$column> for $row {
+            type Output = $cell;
+
+            fn index(&self, column: $column) -> &$cell {
+                &self.0[column.$index()]
+            }
+        }
+
+        impl IndexMut<$column> for $row {
+            fn index_mut(&mut self, column: $column) -> &mut $cell {
+                &mut self.0[column.$index()]
+            }
+        }
+    };
+}
+
+by_column!(MainRow, u64, 0, ProcessorMainColumn, main_index);
+by_column!(AuxRow, Element, Element::ZERO, ProcessorAuxColumn, aux_index);
 
 /// The clock jump differences of the three memory-like tables.
-#[derive(Debug, Clone, Copy, Default)]
-pub struct Differences<'a> {
+#[derive(Debug, Clone, Copy, Default, PartialEq, Eq)]
+pub struct ClkJumpDiffs<'a> {
     /// Those of the op stack.
     pub op_stack: &'a [u64],
     /// Those of the RAM.
@@ -28,31 +109,99 @@ pub struct Differences<'a> {
 ///
 /// # Errors
 ///
-/// [`Refusal::SliceLength`] if trace or table is not whole rows or a list is long, then [`Refusal::RowCount`] if the table is long
-/// in rows or shorter than the trace, then [`Refusal::WordNotBelowP`] in trace or lists, then [`Refusal::DifferenceTooLarge`] if a
+/// [`Refusal::SliceLength`] if a list has over [`MAX_ROWS`] words, then [`Refusal::RowCount`] if the table has over [`MAX_ROWS`]
+/// rows or fewer than the trace, then [`Refusal::WordNotBelowP`] in trace or lists, then [`Refusal::DifferenceTooLarge`] if a
 /// difference is not below the number of trace rows.
-pub fn fill(trace: &[u64], differences: Differences, table: &mut [u64]) -> Result<(), Refusal> {
-    answer(abi::fill(trace, differences.op_stack, differences.ram, differences.jump_stack, table), ())
+pub fn fill(trace: &[MainRow], differences: ClkJumpDiffs<'_>, table: &mut [MainRow]) -> Result<(), Refusal> {
+    let ClkJumpDiffs { op_stack, ram, jump_stack } = differences;
+    answer(abi::fill(words(trace), op_stack, ram, jump_stack, words_mut(table)), ())
 }
 
 /// Makes the rows from `table_len` on padding, and grows row 1's multiplicity by their number.
 ///
 /// # Errors
 ///
-/// [`Refusal::SliceLength`] unless the table is whole rows, then [`Refusal::RowCount`] if it has under 2 rows or is long in rows,
-/// or `table_len` is 0 or above them, then [`Refusal::WordNotBelowP`] in the first `table_len` rows.
-pub fn pad(table: &mut [u64], table_len: usize) -> Result<(), Refusal> {
-    answer(abi::pad(table, table_len), ())
+/// [`Refusal::RowCount`] if the table has under 2 rows or over [`MAX_ROWS`], or `table_len` is 0 or above them, then
+/// [`Refusal::WordNotBelowP`] in the first `table_len` rows.
+pub fn pad(table: &mut [MainRow], table_len: usize) -> Result<(), Refusal> {
+    answer(abi::pad(words_mut(table), table_len), ())
 }
 
-/// Writes the main table's eleven columns into `aux`, 33 words a row, by chunks of any positive length; `work`, 6 words a row, ends
+/// Writes the main table's eleven columns into `aux`, by chunks of any positive length: the result is the same at each. `work` ends
 /// as zeros.
 ///
 /// # Errors
 ///
-/// [`Refusal::SliceLength`] unless `main` is whole rows and `aux` and `work` have their words for each, then [`Refusal::RowCount`]
-/// if rows are 0 or long, then [`Refusal::ChunkLengthZero`], then [`Refusal::WordNotBelowP`] in main or challenges, then
-/// [`Refusal::ZeroDenominator`] if an entry of a lookup column has denominator zero.
-pub fn extend(main: &[u64], challenges: &Record, chunk: usize, aux: &mut [u64], work: &mut [u64]) -> Result<(), Refusal> {
-    answer(abi::extend(main, challenges.as_flattened(), chunk, aux, work), ())
+/// [`Refusal::SliceLength`] unless `aux` has a row and `work` [`WORK_WIDTH`] words for each row of `main`, then
+/// [`Refusal::RowCount`] if rows are 0 or over [`MAX_ROWS`], then [`Refusal::ChunkLengthZero`], then [`Refusal::WordNotBelowP`] in
+/// `main`, then [`Refusal::ZeroDenominator`] if an entry of a lookup column has denominator zero.
+pub fn extend(
+    main: &[MainRow],
+    challenges: &Challenges,
+    chunk: usize,
+    aux: &mut [AuxRow],
+    work: &mut [u64],
+) -> Result<(), Refusal> {
+    answer(abi::extend(words(main), words(from_ref(challenges)), chunk, words_mut(aux), work), ())
+}
+
+#[cfg(test)]
+mod tests {
+    use super::*;
+    use crate::air::ProcessorAuxColumn::*;
+    use crate::air::ProcessorMainColumn::*;
+    use crate::challenges::{Claim, SampledChallenges};
+    use crate::field::P;
+
+    fn challenges() -> Challenges {
+        let sampled = SampledChallenges([Element::from(10); Challenges::SAMPLE_COUNT]);
+        Challenges::new(&sampled, Claim { program_digest: [0; 5], input: &[], output: &[] }).unwrap()
+    }
+
+    #[test]
+    fn fill_and_pad() {
+        let mut trace = [MainRow([7; MAIN_WIDTH]); 3];
+        trace[2][CI] = 0;
+        let mut table = [MainRow([9; MAIN_WIDTH]); 5];
+        fill(&trace, ClkJumpDiffs { op_stack: &[2, 0], ram: &[2], jump_stack: &[0, 0] }, &mut table).unwrap();
+        assert_eq!(table.map(|row| row[ClockJumpDifferenceLookupMultiplicity]), [3, 0, 2, 9, 9]);
+        assert_eq!(table.map(|row| row[CI]), [7, 7, 0, 9, 9]);
+        pad(&mut table, 3).unwrap();
+        assert_eq!(table.map(|row| row[ClockJumpDifferenceLookupMultiplicity]), [3, 2, 2, 0, 0]);
+        assert_eq!(table.map(|row| row[CLK]), [7, 7, 7, 3, 4]);
+        assert_eq!(table.map(|row| row[IsPadding]), [7, 7, 7, 1, 1]);
+        assert_eq!(table.map(|row| row[CI]), [7, 7, 0, 0, 0]);
+    }
+
+    #[test]
+    fn output_absorbed_upward() {
+        let mut table = [MainRow::ZERO; 2];
+        (table[0][CI], table[0][NIA], table[0][ST0], table[0][ST1]) = (19, 2, 5, 7);
+        let (mut aux, mut work) = ([AuxRow::default(); 2], [1; 2 * WORK_WIDTH]);
+        extend(&table, &challenges(), 1, &mut aux, &mut work).unwrap();
+        assert_eq!(aux.map(|row| row[OutputTableEvalArg]), [1, 157].map(Element::from));
+        assert_eq!(aux.map(|row| row[InputTableEvalArg]), [Element::ONE; 2]);
+        assert_eq!(work, [0; 2 * WORK_WIDTH]);
+    }
+
+    #[test]
+    fn refusals() {
+        let (mut table, mut aux) = ([MainRow::ZERO; 2], [AuxRow::ZERO; 2]);
+        let four = ClkJumpDiffs { op_stack: &[1], ..ClkJumpDiffs::default() };
+        assert_eq!(fill(&[MainRow::ZERO; 3], ClkJumpDiffs::default(), &mut table), Err(Refusal::RowCount));
+        assert_eq!(fill(&[MainRow([P; MAIN_WIDTH])], four, &mut table), Err(Refusal::WordNotBelowP));
+        assert_eq!(fill(&[MainRow::ZERO], four, &mut table), Err(Refusal::DifferenceTooLarge));
+        assert_eq!(pad(&mut table, 3), Err(Refusal::RowCount));
+        assert_eq!(pad(&mut table[..1], 1), Err(Refusal::RowCount));
+        let mut extended =
+            |rows, chunk, aux_rows, work| extend(&table[..rows], &challenges(), chunk, &mut aux[..aux_rows], &mut [0; 20][..work]);
+        assert_eq!(extended(2, 1, 1, 12), Err(Refusal::SliceLength));
+        assert_eq!(extended(2, 1, 2, 13), Err(Refusal::SliceLength));
+        assert_eq!(extended(0, 0, 0, 0), Err(Refusal::RowCount));
+        assert_eq!(extended(2, 0, 2, 12), Err(Refusal::ChunkLengthZero));
+        assert_eq!(extended(2, 1, 2, 12), Ok(()));
+        // 10 - (10·IP + 10·CI + 10·NIA)
+        table[1][IP] = 1;
+        assert_eq!(extend(&table, &challenges(), 1, &mut aux, &mut [0; 12]), Err(Refusal::ZeroDenominator));
+    }
 }

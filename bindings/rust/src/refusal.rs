@@ -1,98 +1,125 @@
 //! Refusals and their numbers.
 
-use std::error::Error;
-use std::fmt::{Display, Formatter, Result as Written};
+use core::error::Error;
+use core::fmt::{Display, Formatter, Result as Written};
 
-/// Why an operation turned its input away. Nothing that was lent has changed then.
-#[derive(Debug, Clone, Copy, PartialEq, Eq, Hash)]
-#[non_exhaustive]
-pub enum Refusal {
-    /// 1: a slice has the wrong length.
-    SliceLength,
-    /// 2: a word is not below p.
-    WordNotBelowP,
-    /// 3: a number of rows is out of range.
-    RowCount,
-    /// 4: a clock jump difference is not below the number of trace rows.
-    DifferenceTooLarge,
-    /// 5: the chunk length is 0.
-    ChunkLengthZero,
-    /// 6: a denominator is zero, or what is to be inverted.
-    ZeroDenominator,
-    /// 7: a byte of a batch is no command.
-    UnknownCommand,
-    /// 8: a batch ends too early.
-    BatchCutOff,
-    /// 9: a batch has a command out of place or too often, or lacks one.
-    CommandOutOfPlace,
-    /// A number that this crate has no name for.
-    Other(u32),
-}
+use crate::batch::{MAX_BYTES, MAX_DIFFERENCES, MAX_IO_WORDS, MAX_TRACE_ROWS};
+use crate::field::P;
+use crate::processor::{MAX_ROWS, WORK_WIDTH};
 
-impl Refusal {
-    /// The refusal with this number; 0 is none.
-    pub fn from_number(number: u32) -> Option<Refusal> {
-        Some(match number {
-            0 => return None,
-            1 => Refusal::SliceLength,
-            2 => Refusal::WordNotBelowP,
-            3 => Refusal::RowCount,
-            4 => Refusal::DifferenceTooLarge,
-            5 => Refusal::ChunkLengthZero,
-            6 => Refusal::ZeroDenominator,
-            7 => Refusal::UnknownCommand,
-            8 => Refusal::BatchCutOff,
-            9 => Refusal::CommandOutOfPlace,
-            _ => Refusal::Other(number),
-        })
-    }
-
-    /// The number that the library answers.
-    pub fn number(self) -> u32 {
-        self.meaning().0
-    }
-
-    fn meaning(self) -> (u32, &'static str) {
-        match self {
-            Refusal::SliceLength => (1, "a slice has the wrong length"),
-            Refusal::WordNotBelowP => (2, "a word is not below p"),
-            Refusal::RowCount => (3, "a number of rows is out of range"),
-            Refusal::DifferenceTooLarge => (4, "a clock jump difference is not below the number of trace rows"),
-            Refusal::ChunkLengthZero => (5, "the chunk length is 0"),
-            Refusal::ZeroDenominator => (6, "a denominator is zero, or what is to be inverted"),
-            Refusal::UnknownCommand => (7, "a byte of a batch is no command"),
-            Refusal::BatchCutOff => (8, "a batch ends too early"),
-            Refusal::CommandOutOfPlace => (9, "a batch has a command out of place or too often, or lacks one"),
-            Refusal::Other(number) => (number, "no meaning is known"),
+macro_rules! refusals {
+    ($($(#[$meaning:meta])* $name:ident = $number:literal, $message:literal;)*) => {
+        /// Why an operation turned its input away. Nothing that was lent has changed then.
+        #[derive(Debug, Clone, Copy, PartialEq, Eq, Hash)]
+        #[non_exhaustive]
+        pub enum Refusal {
+            $($(#[$meaning])* $name,)*
+            /// A number that this crate has no name for: the library is a later one.
+            #[non_exhaustive]
+            Other {
+                /// The number.
+                number: u32,
+            },
         }
-    }
+
+        impl Refusal {
+            /// The refusal with this number; 0 is none, and a number without a name is [`Refusal::Other`].
+            pub const fn from_number(number: u32) -> Option<Refusal> {
+                Some(match number {
+                    0 => return None,
+                    $($number => Refusal::$name,)*
+                    _ => Refusal::Other { number },
+                })
+            }
+
+            /// The number that the library answers.
+            pub const fn number(self) -> u32 {
+                match self {
+                    $(Refusal::$name => $number,)*
+                    Refusal::Other { number } => number,
+                }
+            }
+        }
+
+        /// The number, what was refused, and what would be right.
+        impl Display for Refusal {
+            fn fmt(&self, f: &mut Formatter<'_>) -> Written {
+                write!(f, "refused {}: ", self.number())?;
+                match self {
+                    $(Refusal::$name => write!(f, $message),)*
+                    Refusal::Other { .. } => f.write_str("the library is a later one than this crate, which has no name for the number"),
+                }
+            }
+        }
+    };
 }
 
-impl Display for Refusal {
-    fn fmt(&self, f: &mut Formatter) -> Written {
-        let (number, meaning) = self.meaning();
-        write!(f, "refused {number}: {meaning}")
-    }
+refusals! {
+    /// 1: a slice has the wrong length.
+    SliceLength = 1, "a slice has the wrong length (a batch has at most {MAX_BYTES} bytes, a list or scan {MAX_ROWS} items; \
+        extension takes an auxiliary row and {WORK_WIDTH} words of work for each row of the main table)";
+    /// 2: a word is not below p.
+    WordNotBelowP = 2, "a word is not below p = {P} (reduce every word modulo p before handing it over)";
+    /// 3: a number of rows is out of range.
+    RowCount = 3, "a number of rows is out of range (a batch announces 1 to {MAX_TRACE_ROWS}; a table has at least its trace's, \
+        2 to be padded, 1 to be extended, and at most {MAX_ROWS})";
+    /// 4: a clock jump difference is not below the number of trace rows.
+    DifferenceTooLarge = 4, "a clock jump difference is not below the number of trace rows (it names a row of its own trace)";
+    /// 5: the chunk length is 0.
+    ChunkLengthZero = 5, "the chunk length is 0 (any positive one gives the same result)";
+    /// 6: a denominator is zero, or what is to be inverted.
+    ZeroDenominator = 6, "a denominator is zero, or what is to be inverted (where extension refuses, a challenge equals an entry of \
+        a lookup column: sample the challenges again)";
+    /// 7: a byte of a batch is no command.
+    UnknownCommand = 7, "a byte of the batch is no command (commands are 00 to 09; the operand before it may have another width than \
+        its command asks)";
+    /// 8: a batch ends too early.
+    BatchCutOff = 8, "the batch ends inside an operand or before its end, 00 (compare its length with what was sent)";
+    /// 9: a batch has a command out of place or too often, or lacks one.
+    CommandOutOfPlace = 9, "the batch has a command out of place or too often, or lacks one (01 first and once, 06 and 07 once each, \
+        02 as often as 01 says, 03 to 05 at most {MAX_DIFFERENCES} times each, 08 and 09 at most {MAX_IO_WORDS} times each, 00 last)";
 }
 
 impl Error for Refusal {}
 
 /// The value, or the refusal that the number names.
 pub(crate) fn answer<T>(number: u32, value: T) -> Result<T, Refusal> {
-    Refusal::from_number(number).map_or(Ok(value), Err)
+    match Refusal::from_number(number) {
+        None => Ok(value),
+        Some(refusal) => Err(refusal),
+    }
 }
 
 #[cfg(test)]
 mod tests {
+    extern crate std;
+
+    use std::string::ToString;
+
     use super::Refusal;
 
     #[test]
     fn each_number_leads_back() {
         assert_eq!(Refusal::from_number(0), None);
-        for number in 1..=20 {
-            let refusal = Refusal::from_number(number);
-            assert_eq!(refusal.map(Refusal::number), Some(number));
-            assert_eq!(refusal.is_some_and(|r| matches!(r, Refusal::Other(_))), number > 9);
+        for number in (1..=20).chain([u32::MAX]) {
+            let refusal = Refusal::from_number(number).unwrap();
+            assert_eq!(refusal.number(), number);
+            assert_eq!(matches!(refusal, Refusal::Other { .. }), number > 9);
+            assert!(refusal.to_string().starts_with(&std::format!("refused {number}: ")));
         }
+    }
+
+    #[test]
+    fn messages() {
+        let says = |refusal: Refusal, message: &str| assert_eq!(refusal.to_string(), message);
+        says(Refusal::ChunkLengthZero, "refused 5: the chunk length is 0 (any positive one gives the same result)");
+        says(
+            Refusal::WordNotBelowP,
+            "refused 2: a word is not below p = 18446744069414584321 (reduce every word modulo p before handing it over)",
+        );
+        says(
+            Refusal::Other { number: 17 },
+            "refused 17: the library is a later one than this crate, which has no name for the number",
+        );
     }
 }

@@ -1,11 +1,15 @@
 -- The auxiliary columns' places in a row; each is one element, of three words.
 use mathlib.Core.Path.{_≡_}
 use mathlib.Core.List.{List, [], _∷_}
-use Prim.Native.Nat.{ℕ}
+use Prim.Native.Nat.{ℕ, _*_}
 use Rattle.air.specs.Count.{upTo}
 
 abbrev pub AUX-WIDTH : ℕ
 AUX-WIDTH = 11
+
+-- of a row: three a column
+abbrev pub AUX-WORDS : ℕ
+AUX-WORDS = AUX-WIDTH * 3
 
 abbrev pub INPUT-TABLE-EVAL-ARG : ℕ
 INPUT-TABLE-EVAL-ARG = 0

@@ -1,15 +1,26 @@
 -- The challenges' places in their record; each is one element, of three words.
 use mathlib.Core.Path.{_≡_}
 use mathlib.Core.List.{List, [], _∷_}
-use Prim.Native.Nat.{ℕ}
+use Prim.Native.Nat.{ℕ, _*_}
 use Rattle.air.specs.Count.{upTo}
 
 abbrev pub COUNT : ℕ
 COUNT = 63
 
+-- of the record: three a challenge
+abbrev pub RECORD-WORDS : ℕ
+RECORD-WORDS = COUNT * 3
+
 -- the challenges below it are sampled, the others derived
 abbrev pub SAMPLE-COUNT : ℕ
 SAMPLE-COUNT = 59
+
+abbrev pub SAMPLED-WORDS : ℕ
+SAMPLED-WORDS = SAMPLE-COUNT * 3
+
+-- of the program's digest, from which a challenge is derived
+abbrev pub DIGEST-WORDS : ℕ
+DIGEST-WORDS = 5
 
 abbrev pub COMPRESS-PROGRAM-DIGEST-INDETERMINATE : ℕ
 COMPRESS-PROGRAM-DIGEST-INDETERMINATE = 0

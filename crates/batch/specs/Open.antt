@@ -1,11 +1,14 @@
 -- Open: the answer, and what each lent slice holds then.
 use mathlib.Core.Bool.{Bool, cond, not, _&&_, _||_}
 use mathlib.Core.List.{List, [], _∷_}
-use Prim.Native.Nat.{ℕ}
+use Prim.Native.Nat.{ℕ, _*_}
 use lib.Dec.{eqb, ltb}
 use lib.ListN.{length}
 use Rattle.refusal.specs.Number.{numberOf}
 use Rattle.refusal.specs.declared.Refusal.the-variants.{SliceLength}
+use Rattle.air.specs.MainColumn.{MAIN-WIDTH}
+use Rattle.air.specs.ChallengeId.{SAMPLED-WORDS, DIGEST-WORDS}
+use Rattle.batch_commands.specs.Format.{MAX-ROWS, MAX-DIFFERENCES, MAX-WORDS}
 use Rattle.batch_reader.specs.declared.OpenAnswer.{OpenAnswer}
 use Rattle.batch_reader.specs.declared.OpenAnswer.the-variants.{Opened, Refused}
 use Rattle.batch_reader.specs.Reading.{reading}
@@ -20,22 +23,28 @@ abbrev pub openCounts : OpenAnswer → List ℕ
 openCounts (Opened counts) = counts .rows ∷ counts .«op_stack» ∷ counts .ram ∷ counts .«jump_stack» ∷ counts .input ∷ counts .output ∷ []
 openCounts (Refused refusal) = []
 
+abbrev pub MAX-BYTES : ℕ
+MAX-BYTES = 16384
+
+abbrev pub TRACE-WORDS : ℕ
+TRACE-WORDS = MAX-ROWS * MAIN-WIDTH
+
 abbrev pub rightLengths : ℕ → ℕ → ℕ → ℕ → ℕ → ℕ → ℕ → ℕ → Bool
 rightLengths trace op-stack ram jump-stack sampled digest input output =
-    eqb trace 1248
-    && eqb op-stack 128
-    && eqb ram 128
-    && eqb jump-stack 128
-    && eqb sampled 177
-    && eqb digest 5
-    && eqb input 64
-    && eqb output 64
+    eqb trace TRACE-WORDS
+    && eqb op-stack MAX-DIFFERENCES
+    && eqb ram MAX-DIFFERENCES
+    && eqb jump-stack MAX-DIFFERENCES
+    && eqb sampled SAMPLED-WORDS
+    && eqb digest DIGEST-WORDS
+    && eqb input MAX-WORDS
+    && eqb output MAX-WORDS
 
 -- "1 over 16,384 bytes or at another slice length. Then left to right"
 unfoldable pub openAnswer : List ℕ → ℕ → ℕ → ℕ → ℕ → ℕ → ℕ → ℕ → ℕ → OpenAnswer
 unfolding reading
 openAnswer batch trace op-stack ram jump-stack sampled digest input output =
-    cond (ltb 16384 (length batch) || not (rightLengths trace op-stack ram jump-stack sampled digest input output)) (Refused SliceLength)
+    cond (ltb MAX-BYTES (length batch) || not (rightLengths trace op-stack ram jump-stack sampled digest input output)) (Refused SliceLength)
     (answerOf (reading batch))
 
 -- what a slice holds after an answer

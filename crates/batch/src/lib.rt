@@ -9,7 +9,7 @@ ghost use Rattle.batch_commands.specs.Format.{ROW, OP-STACK, RAM, JUMP-STACK, S
 ghost use Rattle.batch.specs.Open.{rightLengths, openAnswer, openSlice};
 
 // Longer batches are turned away unread.
-const MAX_LEN: usize = 16384;
+pub const MAX_LEN: usize = 16384;
 
 fn right_lengths(
     trace: usize,
@@ -59,7 +59,9 @@ pub fn open(
     input: &mut [u64],
     output: &mut [u64],
 ) -> OpenAnswer
-    ensures answer { λ r. ⌜ r ≡ openAnswer (now (batch .entry)) (length (now (trace .entry))) (length (now («op_stack» .entry))) (length (now (ram .entry))) (length (now («jump_stack» .entry))) (length (now (sampled .entry))) (length (now (digest .entry))) (length (now (input .entry))) (length (now (output .entry))) ⌝ }
+    ensures answer { λ r. ⌜ r ≡ openAnswer (now (batch .entry))
+        (length (now (trace .entry))) (length (now («op_stack» .entry))) (length (now (ram .entry))) (length (now («jump_stack» .entry)))
+        (length (now (sampled .entry))) (length (now (digest .entry))) (length (now (input .entry))) (length (now (output .entry))) ⌝ }
     ensures trace { λ r. ⌜ now (trace .exit) ≡ openSlice r ROW (now (batch .entry)) (now (trace .entry)) ⌝ }
     ensures op_stack { λ r. ⌜ now («op_stack» .exit) ≡ openSlice r OP-STACK (now (batch .entry)) (now («op_stack» .entry)) ⌝ }
     ensures ram { λ r. ⌜ now (ram .exit) ≡ openSlice r RAM (now (batch .entry)) (now (ram .entry)) ⌝ }

@@ -4,19 +4,18 @@ use mathlib.Core.List.{List, [], _∷_}
 use Prim.Native.Nat.{ℕ, _-_}
 use lib.Dec.{eqb, leb, ltb}
 use lib.ListN.{length, take, getD}
-use Rattle.base_field.specs.Words.{allBelow}
+use Rattle.field_base.specs.Words.{allBelow}
 use Rattle.refusal.specs.declared.Answer.{Answer}
 use Rattle.refusal.specs.declared.Answer.the-variants.{Done, Refused}
 use Rattle.refusal.specs.declared.Refusal.the-variants.{UnknownCommand, BatchCutOff, CommandOutOfPlace, RowCount, WordNotBelowP}
 use Rattle.batch_commands.specs.declared.Head.{Head}
 use Rattle.batch_commands.specs.declared.Head.the-variants.{Unknown, CutOff, Whole}
 use Rattle.batch_words.specs.Words.{number, words}
-use Rattle.batch_commands.specs.Format.{END, TRACE-ROWS, ROW, SAMPLED, DIGEST, width, wordsIn}
+use Rattle.batch_commands.specs.Format.{END, TRACE-ROWS, ROW, SAMPLED, DIGEST, width, wordsIn, MAX-ROWS, MAX-DIFFERENCES, MAX-WORDS}
 
--- how often a command may stand: "06 and 07 once each", 01 too, as many rows as 01 announced, "At most 128 differences a list, 64 input and 64 output
--- words."
+-- how often a command may stand: "06 and 07 once each", 01 too, and as many rows as 01 announced
 abbrev pub limit : ℕ → ℕ → ℕ
-limit rows code = getD (1 ∷ 1 ∷ rows ∷ 128 ∷ 128 ∷ 128 ∷ 1 ∷ 1 ∷ 64 ∷ 64 ∷ []) code 0
+limit rows code = getD (1 ∷ 1 ∷ rows ∷ MAX-DIFFERENCES ∷ MAX-DIFFERENCES ∷ MAX-DIFFERENCES ∷ 1 ∷ 1 ∷ MAX-WORDS ∷ MAX-WORDS ∷ []) code 0
 
 -- rows, 06 or 07, where `came` says how often each command came, by its byte
 abbrev pub missing : ℕ → List ℕ → Bool
@@ -29,9 +28,9 @@ outOfPlace rows came code left =
     || leb (limit rows code) (getD came code 0)
     || (eqb code END && (missing rows came || not (eqb left 0)))
 
--- 01 with a value outside 1 to 32
+-- 01 with a value out of its range
 abbrev pub wrongRowCount : ℕ → List ℕ → Bool
-wrongRowCount code operand = eqb code TRACE-ROWS && not (leb 1 (number operand) && leb (number operand) 32)
+wrongRowCount code operand = eqb code TRACE-ROWS && not (leb 1 (number operand) && leb (number operand) MAX-ROWS)
 
 -- "9 (also past a count), 3, 2", where `bytes` begins with the operand
 unfoldable pub judged : ℕ → List ℕ → ℕ → List ℕ → Answer

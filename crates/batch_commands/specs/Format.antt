@@ -38,6 +38,16 @@ INPUT = 8
 abbrev pub OUTPUT : ℕ
 OUTPUT = 9
 
+-- "1–32"; "At most 128 differences a list, 64 input and 64 output words."
+abbrev pub MAX-ROWS : ℕ
+MAX-ROWS = 32
+
+abbrev pub MAX-DIFFERENCES : ℕ
+MAX-DIFFERENCES = 128
+
+abbrev pub MAX-WORDS : ℕ
+MAX-WORDS = 64
+
 -- of the operand, in bytes
 abbrev pub width : ℕ → ℕ
 width code = getD (0 ∷ 4 ∷ 312 ∷ 8 ∷ 8 ∷ 8 ∷ 1416 ∷ 40 ∷ 8 ∷ 8 ∷ []) code 0

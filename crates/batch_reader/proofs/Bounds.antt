@@ -7,7 +7,7 @@ use native.Mathlib.Omega.{arith}
 use lib.Dec.{eqb, leb}
 use lib.ListN.{take, getD}
 use borrow.Author.Tests.{eqb-true, eq-eqb, ne-eqb, leb-true, not-false}
-use Rattle.base_field.proofs.Below.{and-true}
+use Rattle.field_base.proofs.Below.{and-true}
 use Rattle.refusal.specs.declared.Answer.the-variants.{Done}
 use Rattle.batch_words.specs.Words.{number}
 use Rattle.batch_commands.specs.Format.{TRACE-ROWS, width}

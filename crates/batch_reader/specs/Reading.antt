@@ -21,15 +21,15 @@ abbrev pub unless : Answer → Reading → Reading
 unless (Refused refusal) next = refused refusal
 unless Done next = next
 
--- what follows the commands `before`; a command has at least one byte, so n at least the number of bytes is enough; "At the end 8 without 00"
+-- what follows the commands `passed`; a command has at least one byte, so n at least the number of bytes is enough; "At the end 8 without 00"
 unfoldable pub readFrom : ℕ → List Command → List ℕ → Reading
 unfolding fault count
-readFrom zero before bytes = refused BatchCutOff
-readFrom (suc n) before [] = refused BatchCutOff
-readFrom (suc n) before (code ∷ bytes) =
-    unless (fault (announced before) (counts before) code bytes)
-    (cond (eqb code END) (read before)
-    (readFrom n (before ++ (record { code = code; operand = take (width code) bytes } ∷ [])) (drop (width code) bytes)))
+readFrom zero passed bytes = refused BatchCutOff
+readFrom (suc n) passed [] = refused BatchCutOff
+readFrom (suc n) passed (code ∷ bytes) =
+    unless (fault (announced passed) (counts passed) code bytes)
+    (cond (eqb code END) (read passed)
+    (readFrom n (passed ++ (record { code = code; operand = take (width code) bytes } ∷ [])) (drop (width code) bytes)))
 
 unfoldable pub reading : List ℕ → Reading
 unfolding readFrom

@@ -3,7 +3,7 @@ ghost use mathlib.Core.Path.{_≡_};
 ghost use mathlib.Core.List.{[], _∷_, _++_};
 ghost use Prim.Native.Nat.{_+_, _*_, _≤_};
 ghost use lib.ListN.{length, take, drop};
-ghost use Rattle.base_field.specs.Words.{allBelow};
+ghost use Rattle.field_base.specs.Words.{allBelow};
 ghost use Rattle.batch_words.specs.Words.{number, words};
 
 fn half(b0: u8, b1: u8, b2: u8, b3: u8) -> u32
@@ -36,7 +36,7 @@ pub fn words_below(batch: &[u8], at: usize, n: usize) -> bool
 {
     let mut i: usize = 0;
     while i < n {
-        if base_field::P <= word_at(batch, at + 8 * i) {
+        if field_base::P <= word_at(batch, at + 8 * i) {
             return false;
         }
         i += 1;

@@ -4,7 +4,7 @@ use mathlib.Core.List.{List, _++_, map}
 use Prim.Native.Nat.{ℕ, _*_}
 use lib.Dec.{eqb}
 use lib.ListN.{length}
-use Rattle.base_field.specs.Words.{allBelow}
+use Rattle.field_base.specs.Words.{allBelow}
 use Rattle.field.specs.Element.{elementAt, wordsOf, lift}
 use Rattle.field.specs.declared.XFieldElement.{XFieldElement}
 use Rattle.refusal.specs.Number.{onDone}
@@ -12,7 +12,7 @@ use Rattle.refusal.specs.Long.{isLong}
 use Rattle.refusal.specs.declared.Answer.{Answer}
 use Rattle.refusal.specs.declared.Answer.the-variants.{Done, Refused}
 use Rattle.refusal.specs.declared.Refusal.the-variants.{SliceLength, WordNotBelowP}
-use Rattle.air.specs.ChallengeId.{COMPRESS-PROGRAM-DIGEST-INDETERMINATE, STANDARD-INPUT-INDETERMINATE, STANDARD-OUTPUT-INDETERMINATE, LOOKUP-TABLE-PUBLIC-INDETERMINATE}
+use Rattle.air.specs.ChallengeId.{COMPRESS-PROGRAM-DIGEST-INDETERMINATE, STANDARD-INPUT-INDETERMINATE, STANDARD-OUTPUT-INDETERMINATE, LOOKUP-TABLE-PUBLIC-INDETERMINATE, RECORD-WORDS, SAMPLED-WORDS, DIGEST-WORDS}
 use Rattle.cross_table_argument.specs.CrossTable.{evaluationArgument}
 use Rattle.tip5.specs.LookupTable.{lookupTable}
 
@@ -37,7 +37,7 @@ derivedRecord sampled digest input output =
 -- "1 unless 177 sampled words, 5 digest words, input and output not long, 189 words to write; 2."
 abbrev pub rightLengths : List ℕ → List ℕ → List ℕ → List ℕ → List ℕ → Bool
 rightLengths sampled digest input output lent =
-    eqb (length sampled) 177 && (eqb (length digest) 5 && (not (isLong (length input)) && (not (isLong (length output)) && eqb (length lent) 189)))
+    eqb (length sampled) SAMPLED-WORDS && (eqb (length digest) DIGEST-WORDS && (not (isLong (length input)) && (not (isLong (length output)) && eqb (length lent) RECORD-WORDS)))
 
 abbrev pub allWordsBelow : List ℕ → List ℕ → List ℕ → List ℕ → Bool
 allWordsBelow sampled digest input output = allBelow sampled && (allBelow digest && (allBelow input && allBelow output))

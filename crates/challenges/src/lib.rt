@@ -11,7 +11,7 @@ ghost use mathlib.Core.List.{_++_};
 ghost use Prim.Native.Nat.{_+_, _*_, _≤_};
 ghost use lib.ListN.{length, drop};
 ghost use lib.Seq.{sets};
-ghost use Rattle.base_field.specs.Words.{allBelow};
+ghost use Rattle.field_base.specs.Words.{allBelow};
 ghost use Rattle.field.specs.Element.{wordsOf};
 ghost use Rattle.challenges.specs.Derived.{terminal, rightLengths, allWordsBelow, derivedRecord, challengesAnswer, challengesRecord};
 
@@ -82,16 +82,16 @@ fn right_lengths(
 fn all_words_below(sampled: &[u64], digest: &[u64], input: &[u64], output: &[u64]) -> bool
     ensures { λ r. ⌜ r ≡ allWordsBelow (now (sampled .entry)) (now (digest .entry)) (now (input .entry)) (now (output .entry)) ⌝ }
 {
-    if !base_field::all_below(sampled) {
+    if !field_base::all_below(sampled) {
         return false;
     }
-    if !base_field::all_below(digest) {
+    if !field_base::all_below(digest) {
         return false;
     }
-    if !base_field::all_below(input) {
+    if !field_base::all_below(input) {
         return false;
     }
-    base_field::all_below(output)
+    field_base::all_below(output)
 }
 
 fn derive(sampled: &[u64], digest: &[u64], input: &[u64], output: &[u64], lent: &mut [u64])

@@ -4,10 +4,11 @@ use mathlib.Core.Bool.{true}
 use mathlib.Core.List.{List}
 use Prim.Native.Nat.{ℕ}
 use lib.ListN.{length}
-use Rattle.base_field.specs.Words.{allBelow}
+use Rattle.air.specs.ChallengeId.{RECORD-WORDS}
+use Rattle.field_base.specs.Words.{allBelow}
 
 pub record ReadyTable (challenges main : List ℕ) : Type 0 where
-  pub whole : length challenges ≡ 189
+  pub whole : length challenges ≡ RECORD-WORDS
   pub challenges-below : allBelow challenges ≡ true
   pub main-below : allBelow main ≡ true
 

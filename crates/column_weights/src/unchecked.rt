@@ -5,7 +5,7 @@ ghost use mathlib.Core.Path.{_≡_};
 ghost use Prim.Native.Nat.{_<_};
 ghost use lib.ListN.{length};
 ghost use Rattle.challenges.specs.Derived.{challengeAt};
-ghost use Rattle.processor_entries.specs.Columns.{instruction, opStack, ram, jumpStack, hashInput, hashDigest, sponge, u32, weights};
+ghost use Rattle.column_entries.specs.Columns.{instruction, opStack, ram, jumpStack, hashInput, hashDigest, sponge, u32, weights};
 
 pub fn challenge(challenges: &[u64], id: ChallengeId) -> XFieldElement
     requires { ⌜ length (now challenges) ≡ 189 ⌝ }

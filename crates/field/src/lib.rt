@@ -1,5 +1,5 @@
 // The field of the p^3 elements. A public operation turns away a word that is not below p.
-use base_field::P;
+use field_base::P;
 use refusal::Refusal;
 ghost use mathlib.Core.Bool.{_&&_};
 ghost use mathlib.Core.Path.{_≡_};

@@ -1,2 +1,3 @@
--- The instructions.
+-- The instructions and their opcodes.
+pub mod Opcode
 pub mod Instruction

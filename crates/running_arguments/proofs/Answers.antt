@@ -9,8 +9,8 @@ use lib.ListN.{length}
 use Rattle.refusal.specs.declared.Answer.{Answer}
 use Rattle.refusal.specs.declared.Answer.the-variants.{Done, Refused}
 use Rattle.refusal.specs.declared.Refusal.{Refusal}
-use Rattle.base_field.specs.Words.{allBelow}
-use Rattle.base_field.proofs.Below.{and-true}
+use Rattle.field_base.specs.Words.{allBelow}
+use Rattle.field_base.proofs.Below.{and-true}
 use Rattle.running_arguments.specs.Answers.{wholeItems, scanAnswer, scanWords}
 
 not-refused : (a : Bool) (r : Refusal) (next : Answer) → cond a (Refused r) next ≡ Done → (a ≡ false) × (next ≡ Done)

@@ -6,13 +6,13 @@ use Prim.Native.Nat.{ℕ, _%_, _≤_}
 use lib.Dec.{ltb}
 use lib.ListN.{length}
 use borrow.Author.Tests.{ltb-false, leb-true, eqb-true, not-false}
-use Rattle.base_field.specs.Words.{allBelow}
-use Rattle.base_field.proofs.Below.{and-true}
+use Rattle.field_base.specs.Words.{allBelow}
+use Rattle.field_base.proofs.Below.{and-true}
 use Rattle.refusal.specs.Long.{isLong}
 use Rattle.refusal.specs.declared.Answer.{Answer}
 use Rattle.refusal.specs.declared.Answer.the-variants.{Done, Refused}
 use Rattle.refusal.specs.declared.Refusal.the-variants.{SliceLength, RowCount, WordNotBelowP, DifferenceTooLarge}
-use Rattle.processor_table.specs.Rows.{wholeRows, rows}
+use Rattle.table_rows.specs.Rows.{wholeRows, rows}
 use Rattle.table_fill.specs.Fill.{allUnder, fillAnswer}
 use Rattle.refusal.proofs.Answers.{or-false, past}
 

@@ -9,9 +9,9 @@ use lib.Dec.{eqb, ltb}
 use lib.ListN.{length, drop, getD, drop-of-length-le}
 use lib.Seq.{drop-cons}
 use borrow.Author.Tests.{ltb-true, le-ltb, lt-ltb}
-use Rattle.base_field.proofs.Below.{and-true}
+use Rattle.field_base.proofs.Below.{and-true}
 use Rattle.table_fill.specs.Fill.{count, allUnder}
-use Rattle.processor_table.specs.Writes.{raised}
+use Rattle.table_rows.specs.Writes.{raised}
 use Rattle.table_fill.specs.Counted.{counted}
 
 module _ (n : ℕ) where

@@ -10,12 +10,12 @@ use lib.ListN.{length, drop, getD, length-set}
 use lib.Seq.{getD-set-same, set-set}
 use borrow.Author.Tests.{eq-eqb, ne-eqb}
 use Rattle.algebra.specs.Modulus.{p}
-use Rattle.processor_table.specs.Rows.{rows, rowAt, rowsFrom}
-use Rattle.processor_table.specs.Writes.{withRows, raised}
+use Rattle.table_rows.specs.Rows.{rows, rowAt, rowsFrom}
+use Rattle.table_rows.specs.Writes.{withRows, raised}
 use Rattle.table_fill.specs.Counted.{counted}
 use Rattle.table_fill.specs.Fill.{count, multiplicity, allUnder, filledRow, filled}
 use Rattle.table_fill.proofs.Accepted.{Accepted}
-use Rattle.processor_table.proofs.Rows.{Whole, length-row, same-rows, read-in-row, set-in-row}
+use Rattle.table_rows.proofs.Rows.{Whole, length-row, same-rows, read-in-row, set-in-row}
 use Rattle.table_fill.proofs.Differences.{first-under, one-at-most, count-within}
 
 module _ (trace table : List ℕ) where

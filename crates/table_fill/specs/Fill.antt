@@ -4,14 +4,14 @@ use mathlib.Core.List.{List, [], _∷_, _++_}
 use Prim.Native.Nat.{ℕ, _+_}
 use lib.Dec.{eqb, ltb}
 use lib.ListN.{length, drop, set}
-use Rattle.base_field.specs.Words.{allBelow}
+use Rattle.field_base.specs.Words.{allBelow}
 use Rattle.refusal.specs.Number.{onDone}
 use Rattle.refusal.specs.Long.{isLong}
 use Rattle.refusal.specs.declared.Answer.{Answer}
 use Rattle.refusal.specs.declared.Answer.the-variants.{Done, Refused}
 use Rattle.refusal.specs.declared.Refusal.the-variants.{SliceLength, RowCount, WordNotBelowP, DifferenceTooLarge}
 use Rattle.air.specs.MainColumn.{CLOCK-JUMP-DIFFERENCE-LOOKUP-MULTIPLICITY}
-use Rattle.processor_table.specs.Rows.{wholeRows, rows, rowAt, rowsFrom}
+use Rattle.table_rows.specs.Rows.{wholeRows, rows, rowAt, rowsFrom}
 
 -- how often c stands in a list
 unfoldable pub count : ℕ → List ℕ → ℕ

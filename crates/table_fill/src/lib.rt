@@ -1,15 +1,15 @@
 // The main table from the trace, each row with its lookup multiplicity.
 use air::MainIndex;
-use processor_table::unchecked::put_row;
-use processor_table::unchecked::raise_multiplicity;
 use refusal::Answer;
 use refusal::MAX_LEN;
 use refusal::Refusal;
+use table_rows::unchecked::put_row;
+use table_rows::unchecked::raise_multiplicity;
 ghost use mathlib.Core.Path.{_≡_};
 ghost use mathlib.Core.Bool.{true};
 ghost use Prim.Native.Nat.{_%_, _≤_};
 ghost use lib.ListN.{length};
-ghost use Rattle.processor_table.specs.Rows.{rows};
+ghost use Rattle.table_rows.specs.Rows.{rows};
 ghost use Rattle.table_fill.specs.Fill.{fillAnswer, fillTable, filled, allUnder};
 ghost use Rattle.table_fill.specs.Counted.{counted};
 
@@ -59,10 +59,10 @@ fn fill_answer(
     if MAX_LEN < table_rows || table_rows < trace_rows {
         return Answer::Refused(Refusal::RowCount);
     }
-    if !base_field::all_below(trace)
-        || !base_field::all_below(op_stack)
-        || !base_field::all_below(ram)
-        || !base_field::all_below(jump_stack)
+    if !field_base::all_below(trace)
+        || !field_base::all_below(op_stack)
+        || !field_base::all_below(ram)
+        || !field_base::all_below(jump_stack)
     {
         return Answer::Refused(Refusal::WordNotBelowP);
     }
@@ -98,7 +98,7 @@ fn copy_rows(trace: &[u64], table: &mut [u64])
     let multiplicity = MainIndex::CLOCK_JUMP_DIFFERENCE_LOOKUP_MULTIPLICITY.0;
     let mut c: usize = 0;
     while c < rows {
-        let mut row = processor_table::unchecked::row(trace, c);
+        let mut row = table_rows::unchecked::row(trace, c);
         row[multiplicity] = 0;
         put_row(table, c, row);
         c += 1;

@@ -11,11 +11,11 @@ use borrow.Author.Tests.{ltb-false, leb-true, eqb-true, eqb-false, not-false, lt
 use Rattle.refusal.specs.Long.{isLong}
 use Rattle.refusal.specs.declared.Answer.the-variants.{Done}
 use Rattle.refusal.specs.declared.Refusal.the-variants.{RowCount, SliceLength}
-use Rattle.processor_table.specs.Rows.{wholeRows, rows, rowAt, rowsFrom}
-use Rattle.processor_table.specs.Writes.{withRows}
+use Rattle.table_rows.specs.Rows.{wholeRows, rows, rowAt, rowsFrom}
+use Rattle.table_rows.specs.Writes.{withRows}
 use Rattle.table_pad.specs.Pad.{padAnswer, paddingRow, paddedRow}
 use Rattle.refusal.proofs.Answers.{or-false, past}
-use Rattle.processor_table.proofs.Rows.{split-rows, same-rows, rows-of}
+use Rattle.table_rows.proofs.Rows.{split-rows, same-rows, rows-of}
 
 -- a table whose shape is not refused
 pub record Shaped (table : List ℕ) (len : ℕ) : Type 0 where

@@ -4,22 +4,22 @@ use mathlib.Core.List.{List}
 use Prim.Native.Nat.{ℕ, _-_, _*_}
 use lib.Dec.{eqb, ltb}
 use lib.ListN.{take, set}
-use Rattle.base_field.specs.Words.{allBelow}
+use Rattle.field_base.specs.Words.{allBelow}
 use Rattle.refusal.specs.Number.{onDone}
 use Rattle.refusal.specs.Long.{isLong}
 use Rattle.refusal.specs.declared.Answer.{Answer}
 use Rattle.refusal.specs.declared.Answer.the-variants.{Done, Refused}
 use Rattle.refusal.specs.declared.Refusal.the-variants.{SliceLength, RowCount, WordNotBelowP}
-use Rattle.air.specs.MainColumn.{CLK, IS-PADDING, CLOCK-JUMP-DIFFERENCE-LOOKUP-MULTIPLICITY}
-use Rattle.processor_table.specs.Rows.{wholeRows, rows, rowAt, rowsFrom}
-use Rattle.processor_table.specs.Writes.{raised}
+use Rattle.air.specs.MainColumn.{CLK, IS-PADDING, CLOCK-JUMP-DIFFERENCE-LOOKUP-MULTIPLICITY, MAIN-WIDTH}
+use Rattle.table_rows.specs.Rows.{wholeRows, rows, rowAt, rowsFrom}
+use Rattle.table_rows.specs.Writes.{raised}
 
 -- "1 unless the table is whole rows; 3 if rows are under 2 or long, or table_len is 0 or above rows; 2 in the first table_len rows."
 unfoldable pub padAnswer : List ℕ → ℕ → Answer
 padAnswer table len =
     cond (not (wholeRows table)) (Refused SliceLength)
     (cond (ltb (rows table) 2 || isLong (rows table) || eqb len 0 || ltb (rows table) len) (Refused RowCount)
-    (cond (not (allBelow (take (len * 39) table))) (Refused WordNotBelowP)
+    (cond (not (allBelow (take (len * MAIN-WIDTH) table))) (Refused WordNotBelowP)
     Done))
 
 -- a row like `last` with IsPadding 1, multiplicity 0 and CLK c

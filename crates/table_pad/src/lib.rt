@@ -1,15 +1,15 @@
 // Padding below the trace, and the height of the table that holds it.
 use air::MainIndex;
-use processor_table::unchecked::put_row;
-use processor_table::unchecked::raise_multiplicity;
-use processor_table::unchecked::row;
 use refusal::Answer;
 use refusal::MAX_LEN;
 use refusal::Refusal;
+use table_rows::unchecked::put_row;
+use table_rows::unchecked::raise_multiplicity;
+use table_rows::unchecked::row;
 ghost use mathlib.Core.Path.{_≡_};
 ghost use Prim.Native.Nat.{_-_, _≤_, _<_};
-ghost use Rattle.processor_table.specs.Rows.{rows, rowAt};
-ghost use Rattle.processor_table.specs.Writes.{withRows};
+ghost use Rattle.table_rows.specs.Rows.{rows, rowAt};
+ghost use Rattle.table_rows.specs.Writes.{withRows};
 ghost use Rattle.table_pad.specs.Height.{height};
 ghost use Rattle.table_pad.specs.Pad.{padAnswer, padTable, paddingRow};
 
@@ -42,7 +42,7 @@ fn pad_answer(table: &[u64], table_len: usize) -> Answer
         return Answer::Refused(Refusal::RowCount);
     }
     let end = table_len * MainIndex::COUNT;
-    if !base_field::all_below(&table[..end]) {
+    if !field_base::all_below(&table[..end]) {
         return Answer::Refused(Refusal::WordNotBelowP);
     }
     Answer::Done

@@ -6,7 +6,7 @@ use Prim.Native.Nat.{ℕ, zero, suc, _+_, _<_, _≤_}
 use native.Mathlib.Nat.{add-zero, zero-add, add-suc, suc-add, le-of-suc-le-suc, not-suc-le-zero}
 use lib.ListN.{take, getD}
 use lib.Seq.{take-suc, take-all}
-use Rattle.base_field.specs.Words.{allBelow}
+use Rattle.field_base.specs.Words.{allBelow}
 use Rattle.tip5.specs.LookupTable.{lookupByte, lookupBytes, lookupTable}
 
 from : (n i k : ℕ) → k < n → getD (lookupBytes n i) k 0 ≡ lookupByte (i + k)

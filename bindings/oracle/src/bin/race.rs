@@ -6,11 +6,11 @@
 use std::hint::black_box;
 use std::time::{Duration, Instant};
 
+use compare::random::Random;
 use oracle::rows::{Mix, REALISTIC, WORST, mixed};
 use oracle::{Claimed, Differences, Extension, Items, MAIN_WIDTH, Main, Order, Sampled, Trace};
 use tealbobbin::abi;
 use tealbobbin::field::P;
-use tealbobbin::random::Random;
 
 /// The chunk length of extension.
 const CHUNK: usize = 4096;

@@ -1,7 +1,7 @@
 -- The record's parts are the definition's.
 use borrow.Author.Needs.{needs}
 use mathlib.Core.Path.{ap, _∙_}
-use Rattle.base_field.specs.Words.{allBelow}
+use Rattle.field_base.specs.Words.{allBelow}
 use Rattle.air.specs.ChallengeId.{LOOKUP-TABLE-PUBLIC-INDETERMINATE}
 use Rattle.challenges.specs.Derived.{terminal, derivedRecord}
 use Rattle.tip5.proofs.Table.{table-below}

@@ -2,7 +2,7 @@
 use borrow.Author.Needs.{needs}
 use borrow.Author.Tests.{not-true, not-false}
 use mathlib.Core.Path.{sym, _∙_}
-use Rattle.base_field.proofs.Below.{and-true}
+use Rattle.field_base.proofs.Below.{and-true}
 use Rattle.field.proofs.Below.{canonical-true}
 use Rattle.field.proofs.element_add.Statement.{statement}
 use Rattle.field.proofs.element_add.Tie as tie

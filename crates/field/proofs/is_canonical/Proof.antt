@@ -1,6 +1,6 @@
 -- The three tests in order.
 use borrow.Author.Tests.{le-ltb, lt-ltb}
-use Rattle.base_field.specs.Words.{allBelow}
+use Rattle.field_base.specs.Words.{allBelow}
 use Rattle.field.specs.Element.{canonical}
 use Rattle.field.proofs.is_canonical.Statement.{statement}
 use Rattle.field.proofs.is_canonical.Tie as tie

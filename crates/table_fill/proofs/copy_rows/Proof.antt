@@ -4,10 +4,10 @@ use mathlib.Core.Path.{_≡_, refl, sym, _∙_}
 use Prim.Native.Nat.{_-_, _/_, _≤_}
 use lib.ListN.{length, length-set}
 use Rattle.table_fill.proofs.Filled.{rows-replaced}
-use Rattle.processor_table.specs.Rows.{rowAt}
+use Rattle.table_rows.specs.Rows.{rowAt}
 use Rattle.table_fill.specs.Fill.{filledRow}
-use Rattle.processor_table.specs.Writes.{withRows}
-use Rattle.processor_table.proofs.Rows.{length-row, replace-past, replace-next}
+use Rattle.table_rows.specs.Writes.{withRows}
+use Rattle.table_rows.proofs.Rows.{length-row, replace-past, replace-next}
 use Rattle.table_fill.proofs.copy_rows.Statement.{statement}
 use Rattle.table_fill.proofs.copy_rows.Tie as tie
 

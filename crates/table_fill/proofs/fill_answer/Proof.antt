@@ -7,7 +7,7 @@ use mathlib.Core.Path.{_≡_, sym, _∙_}
 use Prim.Native.Nat.{_/_, _%_}
 use lib.Dec.{eqb}
 use lib.ListN.{length}
-use Rattle.processor_table.specs.Rows.{rows}
+use Rattle.table_rows.specs.Rows.{rows}
 use Rattle.table_fill.specs.Fill.{fillAnswer}
 use Rattle.refusal.proofs.Answers.{is-long}
 use Rattle.table_fill.proofs.Accepted.{byRows, byWords, byDifferences}

@@ -4,8 +4,8 @@ use mathlib.Core.Path.{_≡_, sym, _∙_}
 use Prim.Native.Nat.{_-_, _/_, _≤_}
 use lib.ListN.{length}
 use Rattle.table_pad.specs.Pad.{paddingRow}
-use Rattle.processor_table.specs.Writes.{withRows}
-use Rattle.processor_table.proofs.Rows.{replace-past, replace-next}
+use Rattle.table_rows.specs.Writes.{withRows}
+use Rattle.table_rows.proofs.Rows.{replace-past, replace-next}
 use Rattle.table_pad.proofs.copy_down.Statement.{statement}
 use Rattle.table_pad.proofs.copy_down.Tie as tie
 

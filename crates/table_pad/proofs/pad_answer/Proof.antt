@@ -8,7 +8,7 @@ use Prim.Native.Nat.{_*_, _/_, _%_}
 use native.Mathlib.Omega.{arith}
 use lib.ListN.{length, take}
 use lib.Seq.{length-take-le}
-use Rattle.base_field.specs.Words.{allBelow}
+use Rattle.field_base.specs.Words.{allBelow}
 use Rattle.refusal.specs.declared.Answer.the-variants.{Done, Refused}
 use Rattle.refusal.specs.declared.Refusal.the-variants.{WordNotBelowP}
 use Rattle.table_pad.specs.Pad.{padAnswer}

@@ -1,9 +1,9 @@
 //! The derived challenges.
 
+use compare::random::Random;
+use compare::tally::{Tally, marks};
 use tealbobbin::abi;
-use tealbobbin::random::Random;
 
-use crate::tally::{Tally, marks};
 use crate::words;
 
 fn claim(tally: &mut Tally, random: &mut Random, input: usize, output: usize) {

@@ -1,13 +1,13 @@
 //! The original's cells at its own constraints: unmet where docs/DIFFERENCES.md says so, and nowhere else.
 
+use compare::plain::extension::column::*;
+use compare::plain::extension::opcode::*;
+use compare::random::Random;
+use compare::tally::Tally;
 use oracle::constraints::{initial_met, transition_met};
 use oracle::rows::aux_column::*;
 use oracle::rows::{IB0, NUMBER_OF_WORDS, OPCODES, STACK_ELEMENT, row};
-use tealbobbin::plain::extension::column::*;
-use tealbobbin::plain::extension::opcode::*;
-use tealbobbin::random::Random;
 
-use crate::tally::Tally;
 use crate::words;
 
 const HV5: usize = HV0 + 5;

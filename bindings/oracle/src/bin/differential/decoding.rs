@@ -1,10 +1,10 @@
 //! Decoding.
 
+use compare::random::Random;
+use compare::tally::{Tally, marks};
 use oracle::rows::{ARGUMENTS, OTHERS};
 use tealbobbin::abi;
-use tealbobbin::random::Random;
 
-use crate::tally::{Tally, marks};
 use crate::words;
 
 /// The words 0 to 300 and others near opcodes, with arguments of every class.

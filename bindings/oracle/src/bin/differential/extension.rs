@@ -1,15 +1,13 @@
 //! Extension, with the original's panics as refusals.
 
+use compare::plain::extension::COLUMNS;
+use compare::random::Random;
+use compare::tally::Tally;
+use oracle::MAIN_WIDTH as WIDTH;
 use oracle::rows::{ARGUMENTS, OPCODES, OTHERS, REALISTIC, WORST, any_row, any_table, challenges, mixed, row, symbols};
 use tealbobbin::abi::extend;
 use tealbobbin::field::P;
-use tealbobbin::plain::extension::COLUMNS;
-use tealbobbin::random::Random;
-
-use crate::LONG;
-use crate::tally::Tally;
-
-const WIDTH: usize = 39;
+use tealbobbin::processor::MAX_ROWS;
 
 /// A chunk length: small, around the number of items, any, larger than all.
 pub fn chunk(random: &mut Random, items: usize) -> usize {
@@ -36,7 +34,7 @@ impl Case<'_> {
         let rows = self.main.len() / WIDTH;
         if self.main.len() % WIDTH != 0 || self.aux != 33 * rows || self.challenges.len() != 189 || self.work != 6 * rows {
             1
-        } else if rows == 0 || rows > LONG {
+        } else if rows == 0 || rows > MAX_ROWS {
             3
         } else if self.chunk == 0 {
             5

@@ -8,13 +8,9 @@ mod decoding;
 mod extension;
 mod scans;
 mod tables;
-#[path = "../../../../rust/src/bin/compare/tally.rs"]
-mod tally;
 mod values;
 
-use tealbobbin::random::Random;
-
-const LONG: usize = 4_194_304;
+use compare::random::Random;
 
 fn words(random: &mut Random, n: usize) -> Vec<u64> {
     (0..n).map(|_| random.base()).collect()

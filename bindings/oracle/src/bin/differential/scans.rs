@@ -1,10 +1,10 @@
 //! The scans.
 
+use compare::random::Random;
+use compare::tally::Tally;
 use tealbobbin::abi;
-use tealbobbin::random::Random;
 
 use crate::extension::chunk;
-use crate::tally::Tally;
 use crate::words;
 
 type Scan = (&'static str, usize, fn(&mut [u64], usize) -> u32, fn(&[u64]) -> Vec<u64>);

@@ -1,12 +1,11 @@
 //! Fill and pad, with the original's panics as refusals.
 
+use compare::random::Random;
+use compare::tally::Tally;
+use oracle::MAIN_WIDTH as WIDTH;
 use tealbobbin::abi;
-use tealbobbin::random::Random;
 
-use crate::tally::Tally;
 use crate::words;
-
-const WIDTH: usize = 39;
 
 /// What a call is to answer and leave: the original's table, or a refusal where it panics.
 fn check(tally: &mut Tally, what: &str, shape: &[u64], before: &[u64], got: (u32, &[u64]), original: Result<Vec<u64>, u32>) {

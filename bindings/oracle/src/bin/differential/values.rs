@@ -1,8 +1,7 @@
 //! Document 01's values, from the original.
 
-use tealbobbin::plain::{inverse, sub};
-
-use crate::tally::Tally;
+use compare::plain::{inverse, sub};
+use compare::tally::Tally;
 
 const HALF: u64 = 9223372034707292161;
 

@@ -1,18 +1,14 @@
 //! The list of cases.
 
+use compare::plain::extension::column::{IS_PADDING, OP_STACK_POINTER, ST0};
+use compare::plain::extension::opcode::*;
+use compare::random::Random;
 use oracle::rows::{ANY_WORD, HALT, NUMBER_OF_WORDS, OPCODES, STACK_ELEMENT};
+use tealbobbin::batch::{MAX_DIFFERENCES, MAX_IO_WORDS, MAX_TRACE_ROWS};
 use tealbobbin::field::P;
-use tealbobbin::plain::extension::column::{IS_PADDING, OP_STACK_POINTER, ST0};
-use tealbobbin::plain::extension::opcode::*;
-use tealbobbin::processor::Row;
-use tealbobbin::random::Random;
 
 use crate::roots::ROOTS;
-use crate::runs::{Case, TRACE_ROWS, any_rows, of_parity, row, traces, words};
-
-/// The most differences of a list, and words of input or output.
-const DIFFERENCES: usize = 128;
-const WORDS: usize = 64;
+use crate::runs::{Case, Row, any_rows, of_parity, row, traces, words};
 
 /// A walk over all instructions, row by row.
 struct Walk {
@@ -155,9 +151,9 @@ fn counts(random: &mut Random, rows: usize, lists: [&[u64]; 3], number: u8) -> C
 
 /// As much as a batch holds; the last row's multiplicity takes more than a byte.
 fn longest(random: &mut Random) -> Case {
-    let trace = any_rows(random, TRACE_ROWS);
-    let last = TRACE_ROWS as u64 - 1;
-    let differences = [vec![last; DIFFERENCES], vec![last; DIFFERENCES], (0..=last).cycle().take(DIFFERENCES).collect()];
-    let [input, output] = [words::<WORDS>(random), words::<WORDS>(random)].map(Vec::from);
+    let trace = any_rows(random, MAX_TRACE_ROWS);
+    let last = MAX_TRACE_ROWS as u64 - 1;
+    let differences = [vec![last; MAX_DIFFERENCES], vec![last; MAX_DIFFERENCES], (0..=last).cycle().take(MAX_DIFFERENCES).collect()];
+    let [input, output] = [words::<MAX_IO_WORDS>(random), words::<MAX_IO_WORDS>(random)].map(Vec::from);
     Case { differences, input, output, ..Case::new(random, "the longest batch", trace) }
 }

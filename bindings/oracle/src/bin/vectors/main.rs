@@ -6,11 +6,11 @@ mod runs;
 
 use std::io::Write;
 
+use compare::builder::Builder;
+use compare::plain::extension::AUX_WIDTH;
+use compare::random::Random;
 use oracle::MAIN_WIDTH;
 use runs::Case;
-use tealbobbin::batch::Builder;
-use tealbobbin::plain::extension::AUX_WIDTH;
-use tealbobbin::random::Random;
 
 /// The number and the last row's words: 4 where the original's fill panics, 6 where its extension does.
 fn answer(case: &Case) -> (u8, Vec<u64>) {

@@ -1,16 +1,14 @@
 //! Indeterminates at which a denominator or a factor is zero, or would be if the row had an entry.
 
+use compare::plain::extension::column::{IS_PADDING, MULTIPLICITY};
+use compare::plain::extension::opcode::*;
+use compare::plain::extension::{COLUMNS, WIDTH};
+use compare::plain::{self, Element};
+use compare::random::Random;
 use oracle::rows::aux_column::*;
 use oracle::rows::{HALT, symbols};
-use tealbobbin::field::Element;
-use tealbobbin::plain;
-use tealbobbin::plain::extension::column::{IS_PADDING, MULTIPLICITY};
-use tealbobbin::plain::extension::opcode::*;
-use tealbobbin::plain::extension::{COLUMNS, WIDTH};
-use tealbobbin::processor::Row;
-use tealbobbin::random::Random;
 
-use crate::runs::{Case, row};
+use crate::runs::{Case, Row, row};
 
 /// A column's indeterminate at the element of an entry, whose denominator or factor is then zero;
 /// or at the element that the row would enter if it were no padding and had a multiplicity.

@@ -1,13 +1,14 @@
 //! Runs, and the rows of their traces. What a case leaves free are random words, as good as distinct, so that a misread one shows.
 
+use compare::plain::extension::column::{CI, IS_PADDING, NIA, ST0};
+use compare::random::Random;
+use oracle::MAIN_WIDTH;
 use oracle::rows::OPCODES;
+use tealbobbin::batch::MAX_TRACE_ROWS;
 use tealbobbin::field::P;
-use tealbobbin::plain::extension::column::{CI, IS_PADDING, NIA, ST0};
-use tealbobbin::processor::Row;
-use tealbobbin::random::Random;
 
-/// The most rows of a trace.
-pub const TRACE_ROWS: usize = 32;
+/// A row's words.
+pub type Row = [u64; MAIN_WIDTH];
 
 /// A run, and the number that the original answers to it.
 pub struct Case {
@@ -71,5 +72,5 @@ pub fn of_parity(mut row: Row, parity: u64) -> Row {
 
 /// The rows in traces, each of which begins with the last row of the one before: every window is in one of them.
 pub fn traces(rows: &[Row]) -> Vec<Vec<Row>> {
-    (0..rows.len() - 1).step_by(TRACE_ROWS - 1).map(|at| rows[at..rows.len().min(at + TRACE_ROWS)].to_vec()).collect()
+    (0..rows.len() - 1).step_by(MAX_TRACE_ROWS - 1).map(|at| rows[at..rows.len().min(at + MAX_TRACE_ROWS)].to_vec()).collect()
 }

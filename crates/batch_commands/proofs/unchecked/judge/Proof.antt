@@ -5,7 +5,7 @@ use Prim.Native.Nat.{_+_, _-_, _/_}
 use native.Mathlib.Omega.{arith}
 use lib.ListN.{length, drop, length-drop}
 use borrow.Author.Tests.{not-true, not-false}
-use Rattle.base_field.specs.Words.{allBelow}
+use Rattle.field_base.specs.Words.{allBelow}
 use Rattle.batch_words.specs.Words.{words}
 use Rattle.batch_commands.specs.Format.{width}
 use Rattle.batch_commands.specs.Fault.{outOfPlace, judged}

@@ -3,8 +3,8 @@ use borrow.Author.Needs.{needs}
 use mathlib.Core.Path.{_≡_, refl, sym, _∙_}
 use Prim.Native.Nat.{_-_, _≤_}
 use lib.ListN.{drop, getD}
-use Rattle.base_field.specs.Words.{allBelow}
-use Rattle.base_field.proofs.Below.{fails-at, holds-at, holds-past}
+use Rattle.field_base.specs.Words.{allBelow}
+use Rattle.field_base.proofs.Below.{fails-at, holds-at, holds-past}
 use Rattle.batch_words.specs.Words.{words}
 use Rattle.batch_words.proofs.Bytes.{length-words, within-words, word-of}
 use Rattle.batch_words.proofs.unchecked.words_below.Statement.{statement}

@@ -8,8 +8,8 @@ use Prim.Native.Nat.{ℕ}
 use lib.Dec.{eqb}
 use lib.ListN.{length}
 use Rattle.refusal.specs.Long.{isLong}
-use Rattle.base_field.specs.Words.{allBelow}
-use Rattle.base_field.proofs.Below.{and-true}
+use Rattle.field_base.specs.Words.{allBelow}
+use Rattle.field_base.proofs.Below.{and-true}
 use Rattle.challenges.specs.Derived.{rightLengths, allWordsBelow, challengesAnswer, challengesRecord}
 use Rattle.challenges.proofs.Challenges.new.Statement.{statement}
 use Rattle.challenges.proofs.Challenges.new.Tie as tie

@@ -1,0 +1,337 @@
+//! The library and plain Rust side by side, in one run: nanoseconds a call, the best of several runs of each, and the ratio.
+//! Both sides are calls of the same shape: words checked, the result handed out through a slice.
+
+use std::hint::black_box;
+use std::time::Instant;
+
+use compare::builder::Builder;
+use compare::plain::batch::LENGTHS;
+use compare::plain::batched::extend_batched;
+use compare::plain::extension::{column::*, AUX_WIDTH, WIDTH};
+use compare::plain::{self, Element};
+use compare::random::Random;
+use tealbobbin::abi;
+use tealbobbin::challenges::Challenges;
+use tealbobbin::field::P;
+use tealbobbin::processor::WORK_WIDTH;
+
+const CHUNK: usize = 4096;
+
+/// Opcodes and how often they stand in a table of usual instructions.
+const USUAL: [(u64, u64); 34] = [
+    (33, 30), // dup
+    (1, 22),  // push
+    (3, 14),  // pop
+    (17, 12), // pick
+    (25, 12), // place
+    (41, 10), // swap
+    (57, 12), // read_mem
+    (11, 8),  // write_mem
+    (42, 10), // add
+    (65, 10), // addi
+    (50, 6),  // mul
+    (58, 6),  // eq
+    (2, 7),   // skiz
+    (49, 8),  // call
+    (16, 7),  // return
+    (24, 4),  // recurse
+    (10, 2),  // assert
+    (9, 2),   // divine
+    (4, 3),   // split
+    (6, 3),   // lt
+    (14, 2),  // and
+    (22, 1),  // xor
+    (12, 1),  // log_2_floor
+    (30, 1),  // pow
+    (20, 1),  // div_mod
+    (18, 1),  // hash
+    (44, 1),  // merkle_step_mem
+    (34, 1),  // sponge_absorb
+    (48, 1),  // sponge_absorb_mem
+    (56, 1),  // sponge_squeeze
+    (66, 2),  // xx_add
+    (74, 2),  // xx_mul
+    (80, 2),  // xx_dot_step
+    (73, 1),  // read_io
+];
+
+/// The instructions with the most entries: sponge_absorb, sponge_squeeze, sponge_absorb_mem and merkle_step_mem.
+const COSTLY: [(u64, u64); 4] = [(34, 1), (56, 1), (48, 1), (44, 1)];
+
+#[inline(never)]
+fn plain_base_mul(a: u64, b: u64, out: &mut [u64]) -> u32 {
+    if out.len() != 1 {
+        return 1;
+    }
+    if a >= P || b >= P {
+        return 2;
+    }
+    out[0] = plain::mul(a, b);
+    0
+}
+
+#[inline(never)]
+fn plain_base_inverse(a: u64, out: &mut [u64]) -> u32 {
+    if out.len() != 1 {
+        return 1;
+    }
+    if a >= P {
+        return 2;
+    }
+    if a == 0 {
+        return 6;
+    }
+    out[0] = plain::inverse(a);
+    0
+}
+
+fn element(words: &[u64]) -> Result<Element, u32> {
+    let e: Element = words.try_into().map_err(|_| 1u32)?;
+    if e.iter().any(|&w| w >= P) {
+        return Err(2);
+    }
+    Ok(e)
+}
+
+#[inline(never)]
+fn plain_element_mul(a: &[u64], b: &[u64], out: &mut [u64]) -> u32 {
+    let (a, b) = match (element(a), element(b)) {
+        (Ok(a), Ok(b)) => (a, b),
+        (Err(n), _) | (_, Err(n)) => return n,
+    };
+    if out.len() != 3 {
+        return 1;
+    }
+    out.copy_from_slice(&plain::element_mul(&a, &b));
+    0
+}
+
+#[inline(never)]
+fn plain_element_inverse(a: &[u64], out: &mut [u64]) -> u32 {
+    let a = match element(a) {
+        Ok(a) => a,
+        Err(n) => return n,
+    };
+    if out.len() != 3 {
+        return 1;
+    }
+    if a == [0; 3] {
+        return 6;
+    }
+    out.copy_from_slice(&plain::element_inverse(&a));
+    0
+}
+
+#[inline(never)]
+fn plain_extend(main: &[u64], challenges: &[u64], aux: &mut [u64]) -> u32 {
+    if main.len() % WIDTH != 0 || aux.len() != main.len() / WIDTH * AUX_WIDTH || challenges.len() != Challenges::WORDS {
+        return 1;
+    }
+    if main.iter().chain(challenges).any(|&w| w >= P) {
+        return 2;
+    }
+    if extend_batched(main, challenges, aux) {
+        0
+    } else {
+        6
+    }
+}
+
+/// Random rows with these instructions; one in `every` has a multiplicity.
+fn table(random: &mut Random, rows: usize, mix: &[(u64, u64)], every: u64) -> Vec<u64> {
+    let opcodes: Vec<u64> = mix.iter().flat_map(|&(opcode, share)| (0..share).map(move |_| opcode)).collect();
+    let mut main: Vec<u64> = (0..rows * WIDTH).map(|_| random.word() % P).collect();
+    for (index, row) in main.chunks_exact_mut(WIDTH).enumerate() {
+        row[CLK] = index as u64;
+        row[IS_PADDING] = 0;
+        row[CI] = opcodes[random.word() as usize % opcodes.len()];
+        row[NIA] = random.word() % 5 + 1;
+        row[MULTIPLICITY] = if random.word() % every == 0 { random.word() % 9 + 1 } else { 0 };
+    }
+    main
+}
+
+/// Usual instructions, then halt and a quarter of padding.
+fn usual_table(random: &mut Random, rows: usize) -> Vec<u64> {
+    let mut main = table(random, rows, &USUAL, 4);
+    let table_len = rows / 4 * 3;
+    main[(table_len - 1) * WIDTH + CI] = 0;
+    plain::pad(&mut main, table_len);
+    main
+}
+
+/// A batch with this many rows, differences of each kind, and words of input and of output.
+fn batch(random: &mut Random, rows: usize, differences: usize, words: usize) -> Vec<u8> {
+    let mut word = || random.word() % P;
+    let mut batch = Builder::default();
+    batch.rows(rows as u32).sampled(&std::array::from_fn(|_| word())).digest(&std::array::from_fn(|_| word()));
+    for _ in 0..rows {
+        batch.row(&std::array::from_fn(|_| word()));
+    }
+    for _ in 0..differences {
+        batch.op_stack(word()).ram(word()).jump_stack(word());
+    }
+    for _ in 0..words {
+        batch.input(word()).output(word());
+    }
+    batch.end().bytes()
+}
+
+/// The best time of `runs` runs, in nanoseconds a call.
+fn time(runs: u32, calls: usize, mut run: impl FnMut()) -> f64 {
+    (0..runs)
+        .map(|_| {
+            let began = Instant::now();
+            run();
+            began.elapsed().as_secs_f64() * 1e9 / calls as f64
+        })
+        .fold(f64::INFINITY, f64::min)
+}
+
+/// Runs the two sides in turn, so that both meet the machine in the same mood.
+fn side_by_side(name: &str, calls: usize, mut ours: impl FnMut(), mut plainly: impl FnMut()) {
+    let (mut best, mut best_plain) = (f64::INFINITY, f64::INFINITY);
+    for _ in 0..9 {
+        best = best.min(time(1, calls, &mut ours));
+        best_plain = best_plain.min(time(1, calls, &mut plainly));
+    }
+    println!("{name:<34} {best:>10.2} {best_plain:>10.2} {:>8.2}", best / best_plain);
+}
+
+fn main() {
+    let mut random = Random(7);
+    let words: Vec<u64> = (0..4096).map(|_| random.word() % (P - 1) + 1).collect();
+    let elements: Vec<Element> = (0..1024).map(|_| [random.word() % P, random.word() % P, random.word() % P]).collect();
+    println!("{:<34} {:>10} {:>10} {:>8}", "", "ours, ns", "plain, ns", "ratio");
+
+    let products = |f: fn(u64, u64, &mut [u64]) -> u32| {
+        let words = words.clone();
+        move || {
+            let mut out = [0];
+            for _ in 0..50 {
+                for pair in words.windows(2) {
+                    black_box(f(pair[0], pair[1], &mut out));
+                }
+            }
+            black_box(out);
+        }
+    };
+    side_by_side("base product", 50 * 4095, products(abi::base_mul), products(plain_base_mul));
+
+    let chain = |f: fn(u64, u64, &mut [u64]) -> u32| {
+        let b = words[0];
+        move || {
+            let mut out = [b];
+            for _ in 0..200_000 {
+                let a = out[0];
+                black_box(f(a, b, &mut out));
+            }
+            black_box(out);
+        }
+    };
+    side_by_side("base product, a chain", 200_000, chain(abi::base_mul), chain(plain_base_mul));
+
+    let inverses = |f: fn(u64, &mut [u64]) -> u32| {
+        let words = words.clone();
+        move || {
+            let mut out = [0];
+            for &a in &words {
+                black_box(f(a, &mut out));
+            }
+            black_box(out);
+        }
+    };
+    side_by_side("base inverse", 4096, inverses(abi::base_inverse), inverses(plain_base_inverse));
+
+    let element_products = |f: fn(&[u64], &[u64], &mut [u64]) -> u32| {
+        let elements = elements.clone();
+        move || {
+            let mut out = [0; 3];
+            for _ in 0..50 {
+                for pair in elements.windows(2) {
+                    black_box(f(&pair[0], &pair[1], &mut out));
+                }
+            }
+            black_box(out);
+        }
+    };
+    side_by_side("element product", 50 * 1023, element_products(abi::element_mul), element_products(plain_element_mul));
+
+    let element_chain = |f: fn(&[u64], &[u64], &mut [u64]) -> u32| {
+        let b = elements[0];
+        move || {
+            let mut out = b;
+            for _ in 0..50_000 {
+                let a = out;
+                black_box(f(&a, &b, &mut out));
+            }
+            black_box(out);
+        }
+    };
+    side_by_side("element product, a chain", 50_000, element_chain(abi::element_mul), element_chain(plain_element_mul));
+
+    let element_inverses = |f: fn(&[u64], &mut [u64]) -> u32| {
+        let elements = elements.clone();
+        move || {
+            let mut out = [0; 3];
+            for a in &elements {
+                black_box(f(a, &mut out));
+            }
+            black_box(out);
+        }
+    };
+    side_by_side("element inverse", 1024, element_inverses(abi::element_inverse), element_inverses(plain_element_inverse));
+
+    const ITEMS: usize = 1 << 20;
+    type Scan = (&'static str, usize, fn(&mut [u64], usize) -> u32, fn(&mut [u64]), fn(&mut [u64], usize));
+    let scans: [Scan; 3] = [
+        ("maps", 6, abi::scan_maps, plain::scan_maps, plain::scan_maps_by_chunks),
+        ("products", 3, abi::scan_products, plain::scan_products, plain::scan_products_by_chunks),
+        ("sums", 3, abi::scan_sums, plain::scan_sums, plain::scan_sums_by_chunks),
+    ];
+    for (name, width, scan, plainly, by_chunks) in scans {
+        let words: Vec<u64> = (0..ITEMS * width).map(|_| random.word() % P).collect();
+        let (mut ours, mut plain_words) = (words.clone(), words.clone());
+        let once = |ours: &mut Vec<u64>, chunk: usize| {
+            black_box(scan(ours, chunk));
+        };
+        side_by_side(&format!("scan of {name}"), ITEMS, || once(&mut ours, ITEMS), || plainly(&mut plain_words));
+        side_by_side(&format!("scan of {name}, 4096 a chunk"), ITEMS, || once(&mut ours, CHUNK), || by_chunks(&mut plain_words, CHUNK));
+    }
+
+    let challenges: Vec<u64> = (0..Challenges::WORDS).map(|_| random.word() % P).collect();
+    let room = |rows: usize| (vec![0; rows * AUX_WIDTH], vec![0; rows * WORK_WIDTH]);
+    const ROWS: usize = 1 << 16;
+    let tables = [
+        ("extend a row, usual instructions", usual_table(&mut random, ROWS)),
+        ("extend a row, costly instructions", table(&mut random, ROWS, &COSTLY, 1)),
+    ];
+    for (name, main) in tables {
+        let ((mut aux, mut work), (mut plain_aux, _)) = (room(ROWS), room(ROWS));
+        let ours = || assert_eq!(abi::extend(&main, &challenges, CHUNK, &mut aux, &mut work), 0);
+        side_by_side(name, ROWS, ours, || assert_eq!(plain_extend(&main, &challenges, &mut plain_aux), 0));
+        assert!(aux == plain_aux);
+    }
+    for power in [12, 16, 18, 20] {
+        let rows = 1 << power;
+        let main = usual_table(&mut random, rows);
+        let (mut aux, mut work) = room(rows);
+        let best = time(5, rows, || assert_eq!(abi::extend(&main, &challenges, CHUNK, &mut aux, &mut work), 0));
+        println!("{:<34} {best:>10.2}", format!("extend a row, 2^{power} rows"));
+    }
+
+    for (rows, differences, words) in [(32, 128, 64), (13, 71, 33)] {
+        let bytes = batch(&mut random, rows, differences, words);
+        type Open = fn(&[u8], [&mut [u64]; 8], &mut [u64]) -> u32;
+        let opens = |open: Open| {
+            let (bytes, mut lent) = (&bytes, LENGTHS.map(|length| vec![0; length]));
+            move || {
+                for _ in 0..200 {
+                    let [slices @ .., counts] = lent.each_mut().map(Vec::as_mut_slice);
+                    assert_eq!(open(black_box(bytes), slices, counts), 0);
+                }
+            }
+        };
+        side_by_side(&format!("open a byte, {} bytes", bytes.len()), 200 * bytes.len(), opens(abi::open), opens(plain::batch::open));
+    }
+}

@@ -1,0 +1,407 @@
+//! Opening.
+
+use compare::builder::Builder;
+use compare::plain::batch::{self, LENGTHS};
+use compare::random::Random;
+use compare::tally::Tally;
+use tealbobbin::abi;
+use tealbobbin::batch::{MAX_BYTES, MAX_DIFFERENCES, MAX_IO_WORDS};
+use tealbobbin::field::P;
+use tealbobbin::processor::MAIN_WIDTH;
+
+/// The commands with a word for their operand, and how many of each there may be.
+const LISTS: [(u8, usize); 5] =
+    [(3, MAX_DIFFERENCES), (4, MAX_DIFFERENCES), (5, MAX_DIFFERENCES), (8, MAX_IO_WORDS), (9, MAX_IO_WORDS)];
+
+/// The nine slices in one row of words, each followed by a word that is lent to nobody.
+struct Opening<'a> {
+    tally: Tally,
+    random: &'a mut Random,
+    lengths: [usize; 9],
+    before: Vec<u64>,
+    ours: Vec<u64>,
+    expected: Vec<u64>,
+}
+
+/// Calls with the slices that stand in the words.
+fn call(open: impl Fn(&[u8], [&mut [u64]; 8], &mut [u64]) -> u32, bytes: &[u8], words: &mut [u64], lengths: [usize; 9]) -> u32 {
+    let mut rest = words;
+    let [slices @ .., counts] = lengths.map(|length| {
+        let (slice, after) = std::mem::take(&mut rest).split_at_mut(length);
+        rest = &mut after[1..];
+        slice
+    });
+    open(bytes, slices, counts)
+}
+
+impl Opening<'_> {
+    fn new<'a>(name: &'static str, random: &'a mut Random) -> Opening<'a> {
+        let mut opening = Opening { tally: Tally::new(name), random, lengths: LENGTHS, before: vec![], ours: vec![], expected: vec![] };
+        opening.lend(LENGTHS);
+        opening
+    }
+
+    /// New slices with arbitrary words.
+    fn lend(&mut self, lengths: [usize; 9]) {
+        let length = lengths.iter().map(|length| length + 1).sum::<usize>();
+        self.before = (0..length).map(|_| self.random.any()).collect();
+        (self.ours, self.expected) = (self.before.clone(), self.before.clone());
+        self.lengths = lengths;
+    }
+
+    /// The number and every word of every slice; answers the number that was expected.
+    fn check(&mut self, what: &str, bytes: &[u8]) -> u32 {
+        let number = call(batch::open, bytes, &mut self.expected, self.lengths);
+        let got = call(abi::open, bytes, &mut self.ours, self.lengths);
+        let shown: Vec<u64> = [bytes.len() as u64].into_iter().chain(bytes.iter().map(|&byte| byte as u64)).take(16).collect();
+        self.tally.check(what, &shown, &self.before, (got, &self.ours), number, &self.expected);
+        if number == 0 || got != number || self.ours != self.before {
+            self.lend(self.lengths);
+        }
+        number
+    }
+
+    /// As above, where only one number can be meant.
+    fn expect(&mut self, what: &str, bytes: &[u8], number: u32) {
+        let meant = self.check(what, bytes);
+        if meant != number {
+            self.tally.differ(format!("{what}: a case for {number} is one for {meant}"));
+        }
+    }
+
+    /// As above, with these bytes after the commands.
+    fn after(&mut self, what: &str, commands: &Builder, bytes: &[u8], number: u32) {
+        self.expect(what, commands.clone().raw(bytes).bytes().as_slice(), number);
+    }
+}
+
+fn below(random: &mut Random, n: usize) -> usize {
+    random.word() as usize % n
+}
+
+fn words(random: &mut Random, n: usize) -> Vec<u64> {
+    (0..n).map(|_| random.base()).collect()
+}
+
+/// A word that is not below p.
+fn bad(random: &mut Random) -> u64 {
+    [P, P + 1, u64::MAX, P + (random.word() >> 33)][below(random, 4)]
+}
+
+fn shuffle(random: &mut Random, commands: &mut [Vec<u8>]) {
+    for k in 1..commands.len() {
+        commands.swap(k, below(random, k + 1));
+    }
+}
+
+/// A batch with these counts, its commands mixed between 01 and 00.
+fn whole(random: &mut Random, rows: usize, counts: [usize; 5]) -> Builder {
+    let mut batch = Builder::default();
+    batch.command(6, &words(random, 177)).command(7, &words(random, 5));
+    for _ in 0..rows {
+        batch.command(2, &words(random, MAIN_WIDTH));
+    }
+    for ((command, _), count) in LISTS.into_iter().zip(counts) {
+        for _ in 0..count {
+            batch.command(command, &[random.base()]);
+        }
+    }
+    shuffle(random, &mut batch.commands);
+    batch.rows(rows as u32).commands.rotate_right(1);
+    batch.end().clone()
+}
+
+/// The same with as many of everything as there may be.
+fn largest(random: &mut Random) -> Builder {
+    whole(random, 32, LISTS.map(|list| list.1))
+}
+
+/// The same with counts at random, most of them low.
+fn random_whole(random: &mut Random) -> Builder {
+    let most = [1, 1, 1, 2, 3, 128][below(random, 6)];
+    let rows = 1 + below(random, most.min(32));
+    let counts = LISTS.map(|(_, list)| below(random, most.min(list) + 1));
+    whole(random, rows, counts)
+}
+
+/// Every number of rows, every count of each list, the largest batch, and `count` others; then slices of other lengths.
+fn sound(opening: &mut Opening, count: u64) {
+    for rows in 1..=32 {
+        let batch = whole(opening.random, rows, [rows, 0, 1, 2, 3]);
+        opening.expect("rows", &batch.bytes(), 0);
+    }
+    for (list, (_, most)) in LISTS.into_iter().enumerate() {
+        for n in 0..=most {
+            let mut counts = [0; 5];
+            counts[list] = n;
+            let batch = whole(opening.random, 1, counts);
+            opening.expect("counts", &batch.bytes(), 0);
+        }
+    }
+    for _ in 0..100 {
+        let bytes = largest(opening.random).bytes();
+        assert_eq!(bytes.len(), 16_088);
+        opening.expect("largest", &bytes, 0);
+    }
+    for _ in 0..count {
+        let batch = random_whole(opening.random);
+        opening.expect("whole", &batch.bytes(), 0);
+    }
+    let batches = [whole(opening.random, 1, [1; 5]).bytes(), largest(opening.random).bytes(), vec![], vec![10], vec![0; MAX_BYTES + 1]];
+    for (slice, length) in LENGTHS.into_iter().enumerate() {
+        for other in [0, length - 1, length + 1, length + MAIN_WIDTH, 2 * length, LENGTHS[(slice + 4) % 9]] {
+            let mut lengths = LENGTHS;
+            lengths[slice] = other;
+            opening.lend(lengths);
+            batches.iter().for_each(|bytes| opening.expect("lengths", bytes, 1));
+        }
+        let mut lengths = LENGTHS;
+        lengths.swap(slice, (slice + 4) % 9);
+        opening.lend(lengths);
+        batches.iter().for_each(|bytes| opening.expect("lengths", bytes, 1));
+    }
+    opening.lend(LENGTHS);
+}
+
+/// Batches cut off at every length; every byte changed; every command byte in every command's place.
+fn every_byte(opening: &mut Opening) {
+    let (least, mixed, most) = (whole(opening.random, 1, [0; 5]), whole(opening.random, 3, [2; 5]), largest(opening.random));
+    for batch in [&least, &mixed, &most] {
+        let bytes = batch.bytes();
+        for length in 0..bytes.len() {
+            opening.expect("cut off", &bytes[..length], 8);
+        }
+    }
+    for batch in [&least, &mixed] {
+        let bytes = batch.bytes();
+        for place in 0..bytes.len() {
+            for change in [1, 128, 255] {
+                let mut bytes = bytes.clone();
+                bytes[place] ^= change;
+                opening.check("changed", &bytes);
+            }
+        }
+        for place in 0..batch.commands.len() {
+            for command in 0..=255 {
+                let mut batch = batch.clone();
+                batch.commands[place][0] = command;
+                opening.check("other command", &batch.bytes());
+            }
+        }
+    }
+}
+
+/// A word that is not below p in every place of every operand; with a later fault, and with an earlier one.
+fn bad_words(opening: &mut Opening) {
+    let batch = whole(opening.random, 2, [2; 5]);
+    for (place, command) in batch.commands.iter().enumerate().filter(|(_, command)| command.len() > 8) {
+        for from in (1..command.len()).step_by(8) {
+            for word in [P, P + 1, u64::MAX, bad(opening.random)] {
+                let mut batch = batch.clone();
+                batch.commands[place][from..from + 8].copy_from_slice(&word.to_le_bytes());
+                opening.expect("bad word", &batch.bytes(), 2);
+                let cut = batch.commands[..=place].concat();
+                opening.expect("bad word, then the end", &cut, 2);
+                opening.expect("bad word cut off", &cut[..cut.len() - 1], 8);
+                batch.commands.insert(place + 1, vec![10]);
+                opening.expect("bad word, then no command", &batch.bytes(), 2);
+                batch.commands.swap(place, place + 1);
+                opening.expect("no command, then bad word", &batch.bytes(), 7);
+            }
+        }
+    }
+}
+
+/// 01 with every kind of number, and with other commands before it; rows missing and rows too many.
+fn rows(opening: &mut Opening) {
+    let powers = (0..32).map(|k| 1u32 << k);
+    for announced in (0..300).chain(powers).chain([u32::MAX, u32::MAX - 31, 1 << 24 | 1]) {
+        let batch = Builder::default().rows(announced).clone();
+        let number = if (1..=32).contains(&announced) { 8 } else { 3 };
+        opening.after("announced", &batch, &[], number);
+        opening.after("announced, then no command", &batch, &[10], if number == 3 { 3 } else { 7 });
+        opening.after("announced, then 00", &batch, &[0], if number == 3 { 3 } else { 9 });
+    }
+    for announced in 1..=32 {
+        for rows in 1..=32 {
+            let mut batch = whole(opening.random, rows, [1; 5]);
+            batch.commands[0] = Builder::default().rows(announced as u32).bytes();
+            opening.expect("rows", &batch.bytes(), if announced == rows { 0 } else { 9 });
+            batch.commands.pop();
+            opening.expect("rows without 00", &batch.bytes(), if rows > announced { 9 } else { 8 });
+        }
+    }
+    let batch = whole(opening.random, 1, [1; 5]);
+    for first in 1..batch.commands.len() {
+        let mut batch = batch.clone();
+        batch.commands.swap(0, first);
+        opening.expect("not 01 first", &batch.bytes(), 9);
+        for fill in [0, 255] {
+            let mut command = batch.commands[0].clone();
+            command[1..].fill(fill);
+            opening.expect("not 01 first", &command, 9);
+            command.pop();
+            opening.expect("not 01 first, cut off", &command, 8);
+        }
+    }
+}
+
+/// One command more than there may be, in every place after the last that may: whole, with a bad word, cut off.
+fn past_counts(opening: &mut Opening) {
+    let batch = whole(opening.random, 2, LISTS.map(|list| list.1));
+    let end = batch.commands.len() - 1;
+    for (command, width) in [(1, 4), (2, 312), (3, 8), (4, 8), (5, 8), (6, 1416), (7, 40), (8, 8), (9, 8)] {
+        let last = batch.commands.iter().rposition(|other| other[0] == command).unwrap();
+        for place in last + 1..=end {
+            for fill in [0, 255] {
+                let mut before = Builder { commands: batch.commands[..place].to_vec() };
+                let operand = vec![fill; width];
+                opening.after("past a count", &before, &[&[command], &operand[..]].concat(), 9);
+                opening.after("past a count, cut off", &before, &[&[command], &operand[1..]].concat(), 8);
+                opening.after("past a count, cut off", &before, &[command], 8);
+                before.raw(&[command]).raw(&operand).commands.extend_from_slice(&batch.commands[place..]);
+                opening.expect("past a count, then the rest", &before.bytes(), 9);
+            }
+        }
+    }
+}
+
+/// 00 in every place, with a command missing and with bytes after it; about 16,384 bytes; five commands in every order.
+fn ends(opening: &mut Opening) {
+    let (batch, most) = (whole(opening.random, 3, [3; 5]), largest(opening.random));
+    for place in 0..batch.commands.len() {
+        let mut missing = batch.clone();
+        let command = missing.commands.remove(place)[0];
+        let number = [8, 9, 9, 0, 0, 0, 9, 9, 0, 0][command as usize];
+        opening.expect("missing", &missing.bytes(), number);
+        let mut early = batch.clone();
+        early.commands.insert(place, vec![0]);
+        opening.expect("early 00", &early.bytes(), 9);
+    }
+    for after in 0..=255 {
+        opening.after("bytes after 00", &batch, &[after], 9);
+        opening.after("bytes after 00", &batch, &vec![after; 3000], 9);
+    }
+    for length in MAX_BYTES - 300..MAX_BYTES + 300 {
+        let mut bytes = most.bytes();
+        bytes.resize(length, length as u8);
+        let number = if length > MAX_BYTES { 1 } else if length == 16_088 { 0 } else if length < 16_088 { 8 } else { 9 };
+        opening.expect("length", &bytes, number);
+        bytes.fill(10);
+        opening.expect("length of rubbish", &bytes, if length > MAX_BYTES { 1 } else { 7 });
+    }
+    for length in [MAX_BYTES + 1, 1 << 16, 1 << 20] {
+        opening.expect("too long", &vec![10; length], 1);
+    }
+    let five = Builder::default().rows(1).command(2, &[0; MAIN_WIDTH]).command(6, &[0; 177]).command(7, &[0; 5]).end().clone();
+    for order in 0..5usize.pow(5) {
+        let commands = [1, 5, 25, 125, 625].map(|power| five.commands[order / power % 5].as_slice());
+        opening.check("order", &commands.concat());
+    }
+}
+
+/// Another order or number of commands, or another operand.
+fn damage_commands(random: &mut Random, commands: &mut Vec<Vec<u8>>) {
+    let (at, other) = (below(random, commands.len()), below(random, commands.len()));
+    let command = commands[at].clone();
+    match random.word() % 9 {
+        0 => commands.swap(at, other),
+        1 => shuffle(random, commands),
+        2 => commands.insert(other, command),
+        3 => commands[at].truncate(below(random, command.len())),
+        4 => commands[at][0] = random.word() as u8 % [10, 12, 255][below(random, 3)],
+        5 => {
+            let announced = [0, 33, 1 << 31, 1 << 24, random.word() as u32, random.word() as u32 % 40][below(random, 6)];
+            commands[0] = Builder::default().rows(announced).bytes();
+        }
+        6 if command.len() > 8 => {
+            let from = 1 + 8 * below(random, command.len() / 8);
+            commands[at][from..from + 8].copy_from_slice(&bad(random).to_le_bytes());
+        }
+        7 if command.len() == 9 => drop(commands.splice(at..at, vec![command; 64 + below(random, 65)])),
+        _ => drop(commands.remove(at)),
+    }
+}
+
+/// Bytes changed, lost, added, cut off, or too many.
+fn damage_bytes(random: &mut Random, bytes: &mut Vec<u8>) {
+    let near = [8, 64, bytes.len()][below(random, 3)].min(bytes.len());
+    let place = if random.word() % 2 == 0 { below(random, near) } else { bytes.len() - 1 - below(random, near) };
+    let n = 1 + below(random, 9);
+    match random.word() % 8 {
+        0 => bytes[place] ^= 1 << (random.word() % 8),
+        1 => bytes[place] = random.word() as u8,
+        2 => bytes[place] = random.word() as u8 % 11,
+        3 => bytes.truncate(place),
+        4 => drop(bytes.drain(place..(place + n).min(bytes.len()))),
+        5 => drop(bytes.splice(place..place, (0..n).map(|_| random.word() as u8 % 11))),
+        6 => bytes.extend((0..n).map(|_| random.word() as u8)),
+        _ if random.word() % 8 == 0 => bytes.resize(MAX_BYTES + n, 0),
+        _ => bytes[place..].fill(255),
+    }
+}
+
+/// A whole batch damaged once, or twice.
+fn damaged(random: &mut Random, batch: &Builder) -> Vec<u8> {
+    let mut commands = batch.commands.clone();
+    let damage = random.word() % 4;
+    if damage < 3 {
+        damage_commands(random, &mut commands);
+    }
+    let mut bytes = commands.concat();
+    if damage > 1 {
+        damage_bytes(random, &mut bytes);
+    }
+    bytes
+}
+
+/// A few commands at random, 01 mostly first, most of them whole.
+fn babble(random: &mut Random) -> Vec<u8> {
+    let mut batch = Builder::default();
+    if random.word() % 8 != 0 {
+        batch.rows(random.word() as u32 % 35);
+    }
+    for _ in 0..random.word() % 8 {
+        let command = random.word() as u8 % [11, 11, 11, 255][below(random, 4)];
+        let mut operand = words(random, [0, 0, MAIN_WIDTH, 1, 1, 1, 177, 5, 1, 1].get(command as usize).copied().unwrap_or(0));
+        if !operand.is_empty() && random.word() % 16 == 0 {
+            let place = below(random, operand.len());
+            operand[place] = bad(random);
+        }
+        match command {
+            1 => batch.rows(random.word() as u32 % 35),
+            _ => batch.command(command, &operand),
+        };
+    }
+    let mut bytes = batch.bytes();
+    if random.word() % 4 == 0 {
+        bytes.truncate(below(random, bytes.len() + 1));
+    }
+    bytes
+}
+
+/// Whole batches; then batches with a fault in every place, and `count` damaged at random.
+pub fn compare(random: &mut Random, count: u64) -> bool {
+    let mut whole = Opening::new("open", random);
+    sound(&mut whole, count / 40);
+    let right = whole.tally.report();
+    let mut opening = Opening::new("open, damaged", random);
+    every_byte(&mut opening);
+    bad_words(&mut opening);
+    rows(&mut opening);
+    past_counts(&mut opening);
+    ends(&mut opening);
+    for _ in 0..count / 12 {
+        let batch = random_whole(opening.random);
+        for _ in 0..8 {
+            let bytes = damaged(opening.random, &batch);
+            opening.check("damaged", &bytes);
+        }
+        for _ in 0..4 {
+            let bytes = babble(opening.random);
+            opening.check("babble", &bytes);
+        }
+    }
+    opening.tally.reached(&[0, 1, 2, 3, 7, 8, 9]);
+    opening.tally.report() && right
+}

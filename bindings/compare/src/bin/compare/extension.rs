@@ -1,0 +1,358 @@
+//! Extension.
+
+use compare::plain::batched::extend_batched;
+use compare::plain::extension::{by_row, column::*, extend_plain, opcode, Challenges, Kind, AUX_WIDTH, COLUMNS, WIDTH};
+use compare::plain::{self, Element};
+use compare::random::Random;
+use compare::tally::Tally;
+use tealbobbin::abi;
+use tealbobbin::field::P;
+use tealbobbin::processor::{MAX_ROWS, WORK_WIDTH};
+
+const RECORD: usize = tealbobbin::challenges::Challenges::WORDS;
+const INSTRUCTION: usize = 2;
+const U32: usize = 9;
+const CLOCK: usize = 10;
+
+/// A main table and challenges, and the lengths of the slices for columns and work.
+#[derive(Clone)]
+struct Case {
+    main: Vec<u64>,
+    challenges: Vec<u64>,
+    aux: usize,
+    work: usize,
+}
+
+fn any_words(random: &mut Random, n: usize) -> Vec<u64> {
+    (0..n).map(|_| random.any()).collect()
+}
+
+/// One of the four: anything below p, small, at an edge, or a mixture.
+fn word(random: &mut Random, flavour: u64) -> u64 {
+    match flavour % 4 {
+        0 => random.base(),
+        1 => random.word() % 8,
+        2 => random.edge() % P,
+        _ => {
+            let flavour = random.word() % 3;
+            word(random, flavour)
+        }
+    }
+}
+
+/// All opcodes, as they are and out of range; arguments in and out of range; padding marked with 1 and with other words.
+fn row(random: &mut Random, flavour: u64, index: usize) -> Vec<u64> {
+    let mut row: Vec<u64> = (0..WIDTH).map(|_| word(random, flavour)).collect();
+    let code = opcode::ALL[random.word() as usize % opcode::ALL.len()];
+    row[CI] = match random.word() % 24 {
+        0 => code + (1 << 8),
+        1 => code + (1 << 32),
+        2 => random.word() % 100,
+        3 => row[CI],
+        _ => code,
+    };
+    row[NIA] = match random.word() % 12 {
+        0 => (1 << 32) + random.word() % 8,
+        1 => row[NIA],
+        2 | 3 => random.word() % 20,
+        _ => random.word() % 5 + 1,
+    };
+    row[IS_PADDING] = match random.word() % 8 {
+        0 => 1,
+        1 => 2,
+        2 => row[IS_PADDING],
+        _ => 0,
+    };
+    if random.word() % 2 == 0 {
+        row[CLK] = index as u64;
+    }
+    if random.word() % 2 == 0 {
+        row[MULTIPLICITY] = 0;
+    }
+    row
+}
+
+/// Rows of one flavour, some of them repeated; the last ones may be padding.
+fn table(random: &mut Random, rows: usize) -> Vec<u64> {
+    let (flavour, repeating) = (random.word(), random.word() % 4 == 0);
+    let mut main: Vec<u64> = vec![];
+    for index in 0..rows {
+        let next = match main.len().checked_sub(WIDTH) {
+            Some(last) if repeating && random.word() % 2 == 0 => main[last..].to_vec(),
+            _ => row(random, flavour, index),
+        };
+        main.extend(next);
+    }
+    if rows >= 2 && random.word() % 3 == 0 {
+        plain::pad(&mut main, random.word() as usize % rows + 1);
+    }
+    main
+}
+
+/// Mostly words below p; sometimes small elements, so that entries coincide and denominators vanish.
+fn challenges(random: &mut Random) -> Vec<u64> {
+    let flavour = random.word() % 8;
+    (0..RECORD).map(|k| if flavour < 2 && k % 3 > 0 { 0 } else { word(random, if flavour < 3 { flavour } else { 0 }) }).collect()
+}
+
+impl Case {
+    fn new(main: Vec<u64>, challenges: Vec<u64>) -> Case {
+        let rows = main.len() / WIDTH;
+        Case { main, challenges, aux: rows * AUX_WIDTH, work: rows * WORK_WIDTH }
+    }
+
+    fn random(random: &mut Random, rows: usize) -> Case {
+        Case::new(table(random, rows), challenges(random))
+    }
+
+    /// A table that no refusal covers, but for one chance in 2^100.
+    fn sound(random: &mut Random, rows: usize) -> Case {
+        let challenges = (0..RECORD).map(|_| random.word() % P).collect();
+        Case::new(table(random, rows), challenges)
+    }
+
+    fn rows(&self) -> usize {
+        self.main.len() / WIDTH
+    }
+
+    /// The elements of a column's entries.
+    fn elements(&self, column: usize) -> Vec<Element> {
+        let challenges = Challenges(&self.challenges);
+        match COLUMNS[column].1 {
+            Kind::Evaluation(entries) | Kind::Product(entries) => by_row(entries, &self.main, challenges).concat(),
+            Kind::Lookup(entries) => by_row(entries, &self.main, challenges).concat().iter().map(|fraction| fraction.1).collect(),
+        }
+    }
+
+    /// Makes the column's indeterminate the element.
+    fn aim(&mut self, column: usize, element: Element) {
+        let id = COLUMNS[column].0;
+        self.challenges[3 * id..3 * id + 3].copy_from_slice(&element);
+    }
+
+    /// Makes the indeterminate of a lookup or product column the element of one of its entries, if it has one.
+    fn aim_at_an_entry(&mut self, random: &mut Random, column: usize) {
+        let elements = self.elements(column);
+        if !elements.is_empty() {
+            self.aim(column, elements[random.word() as usize % elements.len()]);
+        }
+    }
+
+    /// The cells, if there are any: plainly and batched, or only batched where the table is tall.
+    fn cells(&self, tally: &mut Tally, random: &mut Random) -> Option<Vec<u64>> {
+        let mut aux = any_words(random, self.aux);
+        let before = aux.clone();
+        let batched = extend_batched(&self.main, &self.challenges, &mut aux);
+        if self.rows() > 100 {
+            return batched.then_some(aux);
+        }
+        let cells = extend_plain(&self.main, &self.challenges);
+        if batched != cells.is_some() || aux != *cells.as_ref().unwrap_or(&before) {
+            tally.differ(format!("extend_batched, {} rows: not the plain cells", self.rows()));
+        }
+        cells
+    }
+
+    /// Every number and every lent slice, at each chunk length; answers the last number that was expected.
+    fn check(&self, tally: &mut Tally, random: &mut Random, chunks: &[usize]) -> u32 {
+        let rows = self.rows();
+        let whole = self.main.len() % WIDTH == 0 && self.challenges.len() == RECORD;
+        let lengths = whole && self.aux == rows * AUX_WIDTH && self.work == rows * WORK_WIDTH;
+        let counted = rows > 0 && rows <= MAX_ROWS;
+        let below = self.main.iter().chain(&self.challenges).all(|&w| w < P);
+        let cells = if lengths && counted && below { self.cells(tally, random) } else { None };
+        let mut number = 0;
+        for &chunk in chunks {
+            number = if !lengths {
+                1
+            } else if !counted {
+                3
+            } else if chunk == 0 {
+                5
+            } else if !below {
+                2
+            } else if cells.is_none() {
+                6
+            } else {
+                0
+            };
+            let (mut aux, mut work) = (any_words(random, self.aux), any_words(random, self.work));
+            let lent = |aux: &[u64], work: &[u64]| [aux, work, &self.main, &self.challenges].concat();
+            let before = lent(&aux, &work);
+            let expected = cells.as_ref().map_or(vec![], |cells| lent(cells, &vec![0; self.work]));
+            let got = abi::extend(&self.main, &self.challenges, chunk, &mut aux, &mut work);
+            let shape = [self.main.len(), self.challenges.len(), chunk, self.aux, self.work].map(|n| n as u64);
+            tally.check("extend", &shape, &before, (got, &lent(&aux, &work)), number, &expected);
+        }
+        number
+    }
+
+    /// As above, where only one number can be meant.
+    fn expect(&self, tally: &mut Tally, random: &mut Random, chunk: usize, number: u32) {
+        let meant = self.check(tally, random, &[chunk]);
+        if meant != number {
+            tally.differ(format!("extend, {} rows: a case for {number} is one for {meant}", self.rows()));
+        }
+    }
+}
+
+/// Each slice longer and shorter by a word and by a row, empty, and of the length for a row more or less.
+fn lengths(tally: &mut Tally, random: &mut Random) {
+    for rows in [0, 1, 2, 5] {
+        let whole = Case::sound(random, rows);
+        let spare = table(random, 2);
+        for change in [-39, -33, -6, -3, -2, -1, 1, 2, 3, 6, 33, 39, 78, i64::MIN] {
+            let changed = |length: usize| (length as i64).saturating_add(change).max(0) as usize;
+            for slices in 1..16 {
+                let mut case = whole.clone();
+                if slices & 1 != 0 {
+                    case.main.extend(&spare);
+                    case.main.truncate(changed(whole.main.len()));
+                }
+                if slices & 2 != 0 {
+                    case.challenges.extend(&spare);
+                    case.challenges.truncate(changed(RECORD));
+                }
+                if slices & 4 != 0 {
+                    case.aux = changed(whole.aux);
+                }
+                if slices & 8 != 0 {
+                    case.work = changed(whole.work);
+                }
+                case.check(tally, random, &[2, 0]);
+            }
+        }
+    }
+}
+
+/// A word that is not below p in every place of a table and of the challenges.
+fn bad_words(tally: &mut Tally, random: &mut Random) {
+    let whole = Case::sound(random, 3);
+    for bad in [P, P + 1, u64::MAX] {
+        for place in 0..3 * WIDTH {
+            let mut case = whole.clone();
+            case.main[place] = bad;
+            case.expect(tally, random, 1 + place % 4, 2);
+        }
+        for place in 0..RECORD {
+            let mut case = whole.clone();
+            case.challenges[place] = bad;
+            case.expect(tally, random, 1 + place % 4, 2);
+        }
+    }
+}
+
+/// Each set of faults: the first of them in order is answered.
+fn several_faults(tally: &mut Tally, random: &mut Random) {
+    for round in 0..6400 {
+        let [length, no_rows, no_chunk, bad, zero]: [bool; 5] = std::array::from_fn(|k| round >> k & 1 == 1);
+        let mut case = Case::sound(random, if no_rows { 0 } else { 1 + round % 5 });
+        if zero && !no_rows {
+            case.main[CLK] = 7;
+            case.main[MULTIPLICITY] = 1;
+            case.aim(CLOCK, [7, 0, 0]);
+        }
+        if bad {
+            let words = if no_rows || random.word() % 2 == 0 { &mut case.challenges } else { &mut case.main };
+            let place = random.word() as usize % words.len();
+            words[place] = P + random.word() % 3;
+        }
+        if length {
+            match random.word() % 4 {
+                0 => case.main.push(0),
+                1 => drop(case.challenges.pop()),
+                2 => case.aux += AUX_WIDTH,
+                _ => case.work += 1,
+            }
+        }
+        let chunk = if no_chunk { 0 } else { 1 + random.word() as usize % 7 };
+        let faults = [(length, 1), (no_rows, 3), (no_chunk, 5), (bad, 2), (zero, 6)];
+        let first = faults.into_iter().find(|fault| fault.0).map_or(0, |fault| fault.1);
+        case.expect(tally, random, chunk, first);
+    }
+}
+
+/// Every entry of a lookup column with denominator zero; rows without an entry, whose denominator would be zero.
+fn zero_denominators(tally: &mut Tally, random: &mut Random) {
+    for round in 0..150 {
+        let mut case = Case::sound(random, 1 + round % 9);
+        for row in case.main.chunks_exact_mut(WIDTH) {
+            if round % 3 == 0 {
+                row[CI] = opcode::DIV_MOD;
+            }
+            if round % 4 == 0 {
+                row[CLK] = random.word() % P;
+            }
+        }
+        for column in [INSTRUCTION, U32, CLOCK] {
+            for element in case.elements(column) {
+                let mut case = case.clone();
+                case.aim(column, element);
+                case.expect(tally, random, 1 + round % 11, 6);
+            }
+        }
+        let clocks = case.elements(CLOCK);
+        for clk in case.main.chunks_exact(WIDTH).filter(|row| row[MULTIPLICITY] == 0).map(|row| [row[CLK], 0, 0]) {
+            if !clocks.contains(&clk) {
+                let mut case = case.clone();
+                case.aim(CLOCK, clk);
+                case.expect(tally, random, 1 + round % 11, 0);
+            }
+        }
+        let mut unpadded = case.clone();
+        unpadded.main.chunks_exact_mut(WIDTH).for_each(|row| row[IS_PADDING] = 0);
+        let instructions = case.elements(INSTRUCTION);
+        for element in unpadded.elements(INSTRUCTION) {
+            if !instructions.contains(&element) {
+                let mut case = case.clone();
+                case.aim(INSTRUCTION, element);
+                case.expect(tally, random, 1 + round % 11, 0);
+            }
+        }
+    }
+}
+
+/// The largest number of rows and one more, over zeros that are to stay zeros.
+fn long(tally: &mut Tally) {
+    for (rows, chunk, bad, number) in [(MAX_ROWS, 0, false, 5), (MAX_ROWS, 4096, true, 2), (MAX_ROWS + 1, 4096, false, 3), (MAX_ROWS + 1, 0, true, 3)] {
+        let mut main = vec![0; rows * WIDTH];
+        if bad {
+            *main.last_mut().unwrap() = P;
+        }
+        let (mut aux, mut work) = (vec![0; rows * AUX_WIDTH], vec![0; rows * WORK_WIDTH]);
+        let got = abi::extend(&main, &[2; RECORD], chunk, &mut aux, &mut work);
+        let written = aux.iter().chain(&work).filter(|&&w| w != 0).count() as u64;
+        tally.check("extend", &[rows as u64, chunk as u64], &[0], (got, &[written]), number, &[0]);
+    }
+}
+
+/// Every height up to 64 with every chunk length up to two more; `count` random tables, most of them low; taller ones; refusals.
+pub fn compare(random: &mut Random, count: u64) -> bool {
+    let mut tally = Tally::new("extend");
+    for rows in 1..=64 {
+        for chunk in (1..=rows + 2).step_by(2) {
+            Case::sound(random, rows).check(&mut tally, random, &[chunk, chunk + 1]);
+        }
+        Case::random(random, rows).check(&mut tally, random, &[0, usize::MAX / 2, usize::MAX]);
+    }
+    for _ in 0..count {
+        let most = [4, 8, 16, 64][random.word() as usize % 4];
+        let rows = 1 + random.word() as usize % most;
+        let mut case = Case::random(random, rows);
+        let column = random.word() as usize % 44;
+        if (INSTRUCTION..COLUMNS.len()).contains(&column) {
+            case.aim_at_an_entry(random, column);
+        }
+        let chunks = [1 + random.word() as usize % (rows + 2), [1, 2, 3, rows, usize::MAX][random.word() as usize % 5]];
+        case.check(&mut tally, random, &chunks);
+    }
+    for (rows, chunk) in [(1_000, 1), (1_000, 999), (5_000, 1_024), (20_000, 4_096), (20_000, usize::MAX)] {
+        Case::sound(random, rows).check(&mut tally, random, &[chunk]);
+    }
+    lengths(&mut tally, random);
+    bad_words(&mut tally, random);
+    several_faults(&mut tally, random);
+    zero_denominators(&mut tally, random);
+    long(&mut tally);
+    tally.report()
+}

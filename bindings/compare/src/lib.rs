@@ -1,0 +1,6 @@
+//! What the library is compared with, and what the comparisons share.
+
+pub mod builder;
+pub mod plain;
+pub mod random;
+pub mod tally;

@@ -1,0 +1,61 @@
+//! Counts what was compared, and prints what differs.
+
+/// What stands in a lent slice before a call, so that a word written after a refusal shows.
+const MARK: u64 = 0x5ca1_ab1e_0000_0000;
+
+pub fn marks(length: usize) -> Vec<u64> {
+    (0..length).map(|i| MARK + i as u64).collect()
+}
+
+pub struct Tally {
+    name: &'static str,
+    compared: u64,
+    refused: [u64; 10],
+    different: u64,
+    /// Rows of the tables that both sides wrote.
+    pub rows: u64,
+}
+
+impl Tally {
+    pub fn new(name: &'static str) -> Tally {
+        Tally { name, compared: 0, refused: [0; 10], different: 0, rows: 0 }
+    }
+
+    /// A call's number and what the lent slice held before and holds now, against the number and the words that are expected.
+    /// After a refusal the slice is to hold what it held.
+    pub fn check(&mut self, what: &str, input: &[u64], before: &[u64], got: (u32, &[u64]), number: u32, words: &[u64]) {
+        self.compared += 1;
+        self.refused[number as usize] += 1;
+        let wanted = if number == 0 { words } else { before };
+        if got.0 != number || got.1 != wanted {
+            let at = got.1.iter().zip(wanted).position(|(g, w)| g != w).unwrap_or(0);
+            let from = |words: &[u64]| words.iter().skip(at).take(16).copied().collect::<Vec<u64>>();
+            let input = &input[..input.len().min(16)];
+            self.differ(format!("{what} {input:?}: got {} {:?}, expected {number} {:?}, from word {at} on", got.0, from(got.1), from(wanted)));
+        }
+    }
+
+    pub fn differ(&mut self, what: String) {
+        self.different += 1;
+        if self.different <= 20 {
+            println!("{}: {what}", self.name);
+        }
+    }
+
+    /// Each of these answers, 0 for success, is to have been expected at least once.
+    pub fn reached(&mut self, numbers: &[usize]) {
+        for &number in numbers {
+            if self.refused[number] == 0 {
+                self.differ(format!("no case for {number}"));
+            }
+        }
+    }
+
+    /// One line for all that was compared; whether there was no difference.
+    pub fn report(&self) -> bool {
+        let refused: Vec<String> = (1..10).filter(|&n| self.refused[n] > 0).map(|n| format!("{n}: {}", self.refused[n])).collect();
+        let rows = if self.rows > 0 { format!("; {} rows of tables", self.rows) } else { String::new() };
+        println!("{}: {} calls compared, refused {}{rows}; {} differences", self.name, self.compared, refused.join(", "), self.different);
+        self.different == 0
+    }
+}

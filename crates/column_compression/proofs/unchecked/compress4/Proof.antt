@@ -1,0 +1,81 @@
+-- The sum goes from the last word to the first, as `weigh` does.
+use borrow.Author.Needs.{needs}
+use mathlib.Core.Path.{_≡_, refl, _∙_}
+use lib.Dec.{lit<}
+use lib.ListN.{length}
+use Rattle.column_compression.proofs.Weigh.{ends, goes, canonical}
+use Rattle.column_compression.proofs.unchecked.compress4.Statement.{statement}
+use Rattle.column_compression.proofs.unchecked.compress4.Tie as tie
+
+array-read-weigh-last : tie.Need-array-read-weigh-last
+array-read-weigh-last c = search needs
+
+array-copy-out-weigh-last : tie.Need-array-copy-out-weigh-last
+array-copy-out-weigh-last c = search needs
+
+weigh-last-requires : tie.Need-weigh-last-requires
+weigh-last-requires c κs = search needs
+
+array-read-weigh-more : tie.Need-array-read-weigh-more
+array-read-weigh-more c = search needs
+
+array-copy-out-weigh-more : tie.Need-array-copy-out-weigh-more
+array-copy-out-weigh-more c = search needs
+
+weigh-more-requires : tie.Need-weigh-more-requires
+weigh-more-requires c κs = search needs
+
+array-read-weigh-more-2 : tie.Need-array-read-weigh-more-2
+array-read-weigh-more-2 c = search needs
+
+array-copy-out-weigh-more-2 : tie.Need-array-copy-out-weigh-more-2
+array-copy-out-weigh-more-2 c = search needs
+
+weigh-more-requires-2 : tie.Need-weigh-more-requires-2
+weigh-more-requires-2 c κs = search needs
+
+array-read-weigh-more-3 : tie.Need-array-read-weigh-more-3
+array-read-weigh-more-3 c = search needs
+
+array-copy-out-weigh-more-3 : tie.Need-array-copy-out-weigh-more-3
+array-copy-out-weigh-more-3 c = search needs
+
+weigh-more-requires-3 : tie.Need-weigh-more-requires-3
+weigh-more-requires-3 c κs = search needs
+
+settle-weighed-requires : tie.Need-settle-weighed-requires
+settle-weighed-requires c κs = search needs
+
+returns : tie.Need-returns
+returns c =
+    let start = c .before .before .before .before .before .before .before .before .before in
+    let good = start .good in
+    let w = start .args .t1 in
+    let v = start .args .t2 in
+    let h : length w ≡ 4 = search needs in
+    let g : length v ≡ 4 = search needs in
+    canonical w v
+    (c .settle-weighed .ensures
+    ∙ goes w v 4 h g 0 (lit< tt) (c .before .weigh-more3 .ensures .0)
+    (goes w v 4 h g 1 (lit< tt) (c .before .before .before .weigh-more2 .ensures .0)
+    (goes w v 4 h g 2 (lit< tt) (c .before .before .before .before .before .weigh-more .ensures .0)
+    (ends w v 4 h g 3 refl (c .before .before .before .before .before .before .before .weigh-last .ensures .0)))))
+
+pub compress4-spec : {M : Type 1} → statement M
+compress4-spec =
+    tie.close
+    (tie.spec
+    array-read-weigh-last
+    array-copy-out-weigh-last
+    weigh-last-requires
+    array-read-weigh-more
+    array-copy-out-weigh-more
+    weigh-more-requires
+    array-read-weigh-more-2
+    array-copy-out-weigh-more-2
+    weigh-more-requires-2
+    array-read-weigh-more-3
+    array-copy-out-weigh-more-3
+    weigh-more-requires-3
+    settle-weighed-requires
+    returns)

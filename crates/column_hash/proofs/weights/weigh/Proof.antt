@@ -1,0 +1,91 @@
+-- The words from i on are in the sums.
+use borrow.Author.Needs.{needs}
+use mathlib.Core.Path.{_≡_, ap, _∙_}
+use Prim.Native.Nat.{_+_, _-_, _≤_}
+use native.Mathlib.Omega.{arith}
+use lib.ListN.{length, drop}
+use Rattle.field.specs.Element.{sum}
+use Rattle.field.specs.Weighed.{weighedOf, Few}
+use Rattle.field.proofs.Totals.{more-few, few-in}
+use Rattle.column_entries.specs.Row.{weigh}
+use Rattle.column_hash.proofs.Weighing.{weigh-none-left, weigh-one-more}
+use Rattle.column_hash.proofs.weights.weigh.Statement.{statement}
+use Rattle.column_hash.proofs.weights.weigh.Tie as tie
+
+abbrev Inv-loop : tie.InvT-loop
+Inv-loop words from weights behind i₀ sums i =
+    (i ≤ length words)
+    × Few (11 - (from + i)) sums
+    × (weighedOf sums ≡ sum (weigh (drop (from + i) weights) (drop i words)) (weighedOf behind))
+
+abbrev μ-loop : tie.MeasureT-loop
+μ-loop words from weights behind i₀ sums i = i
+
+loop-holds : tie.Need-loop-holds Inv-loop μ-loop
+loop-holds c =
+    let start = c .before in
+    (search needs, start .pre .1, weigh-none-left _ (start .args .words .now) (start .args .behind) (length (start .args .words .now)) (search needs))
+
+sub-i : tie.Need-sub-i Inv-loop μ-loop
+sub-i c = search needs
+
+mul-weigh-more : tie.Need-mul-weigh-more Inv-loop μ-loop
+mul-weigh-more c = search needs
+
+shared-slice-read-weigh-more : tie.Need-shared-slice-read-weigh-more Inv-loop μ-loop
+shared-slice-read-weigh-more c = search needs
+
+add-weigh-more : tie.Need-add-weigh-more Inv-loop μ-loop
+add-weigh-more c = search needs
+
+mul-weigh-more-2 : tie.Need-mul-weigh-more-2 Inv-loop μ-loop
+mul-weigh-more-2 c = search needs
+
+array-copy-out-weigh-more : tie.Need-array-copy-out-weigh-more Inv-loop μ-loop
+array-copy-out-weigh-more c = search needs
+
+weigh-more-requires : tie.Need-weigh-more-requires Inv-loop μ-loop
+weigh-more-requires c κs = few-in _ 15 (omega arith) (c .before .before .before .loop .inv .1)
+
+loop-less : tie.Need-loop-less Inv-loop μ-loop
+loop-less c = search needs
+
+loop-again : tie.Need-loop-again Inv-loop μ-loop
+loop-again c =
+    let in-loop = c .before .before .before in
+    let at-loop = in-loop .before in
+    let start = at-loop .before .before in
+    let i = at-loop .loop .i in
+    let from = start .args .from in (
+      search needs,
+      few-in _ _ (omega arith) (more-few (11 - (from + i)) (at-loop .loop .inv .1) (c .weigh-more .ensures .1)),
+      c .weigh-more .ensures .0
+          ∙ ap (sum _) (at-loop .loop .inv .2)
+          ∙ weigh-one-more (start .args .t2) (start .args .words .now) (start .args .behind) from i (i - 1) (omega arith) (search needs) (search needs),
+    )
+
+returns : tie.Need-returns Inv-loop μ-loop
+returns c =
+    let at-loop = c .before in
+    let from = at-loop .before .before .args .from in
+    let none : at-loop .loop .i ≡ 0 = omega arith in
+    let all : from + at-loop .loop .i ≡ from = omega arith in
+    (rw (all, none) at (at-loop .loop .inv .2), rw all at (at-loop .loop .inv .1))
+
+pub weigh-spec : {M : Type 1} → statement M
+weigh-spec =
+    tie.close
+    (tie.spec
+    Inv-loop
+    μ-loop
+    loop-holds
+    sub-i
+    mul-weigh-more
+    shared-slice-read-weigh-more
+    add-weigh-more
+    mul-weigh-more-2
+    array-copy-out-weigh-more
+    weigh-more-requires
+    loop-less
+    loop-again
+    returns)

@@ -1,0 +1,102 @@
+// Compressing up to eleven words, an opcode and a state's ten: each times its weight, summed, and reduced once.
+use field::XFieldElement;
+use field::unchecked::Weighed;
+use field::unchecked::weigh_more;
+use field_base::unchecked::Sum;
+use field_base::unchecked::Total;
+use isa::Instruction;
+ghost use mathlib.Core.Path.{_≡_};
+ghost use mathlib.Core.List.{_∷_, _++_, map};
+ghost use Prim.Native.Nat.{_+_, _-_, _≤_};
+ghost use lib.ListN.{length, drop, getD};
+ghost use Rattle.air.specs.Count.{upTo};
+ghost use Rattle.field.specs.Element.{zero, sum, scale};
+ghost use Rattle.field.specs.Weighed.{weighedOf, Few};
+ghost use Rattle.isa.specs.Instruction.{opcodeOf};
+ghost use Rattle.column_entries.specs.Row.{weigh};
+
+const NO_SUM: Sum = Sum {
+    upper: Total {
+        carries: 0,
+        word: 0,
+    },
+    lo: 0,
+};
+
+pub(crate) const NO_WORDS: Weighed = Weighed {
+    c0: NO_SUM,
+    c1: NO_SUM,
+    c2: NO_SUM,
+};
+
+// The words under the weights from `from` on, beside the words behind them, which are weighed already.
+pub(crate) fn weigh(
+    words: &[u64],
+    weights: [XFieldElement; 11],
+    from: usize,
+    behind: Weighed,
+) -> Weighed
+    requires { ⌜ from + length (now words) ≤ 11 ⌝ }
+    requires { ⌜ Few (11 - (from + length (now words))) behind ⌝ }
+    ensures { λ r. ⌜ (weighedOf r ≡ sum (weigh (drop from weights) (now (words .entry))) (weighedOf behind)) × Few (11 - from) r ⌝ }
+{
+    let mut sums = behind;
+    let mut i = words.len();
+    while i > 0 {
+        i -= 1;
+        sums = weigh_more(words[i], weights[from + i], sums);
+    }
+    sums
+}
+
+// A run of words under the weights behind the opcode's.
+pub(crate) fn weigh_state(words: &[u64], weights: [XFieldElement; 11]) -> Weighed
+    requires { ⌜ length (now words) ≤ 10 ⌝ }
+    ensures { λ r. ⌜ (weighedOf r ≡ weigh (drop 1 weights) (now (words .entry))) × Few 10 r ⌝ }
+{
+    weigh(words, weights, 1, NO_WORDS)
+}
+
+// Two runs, one behind the other.
+pub(crate) fn weigh_both<'a>(
+    first: &'a [u64],
+    second: &'a [u64],
+    weights: [XFieldElement; 11],
+) -> Weighed
+    requires { ⌜ length (now first) + length (now second) ≤ 10 ⌝ }
+    ensures { λ r. ⌜ (weighedOf r ≡ weigh (drop 1 weights) (now (first .entry) ++ now (second .entry))) × Few 10 r ⌝ }
+{
+    let behind = weigh(second, weights, 1 + first.len(), NO_WORDS);
+    weigh(first, weights, 1, behind)
+}
+
+// An opcode under the first weight, beside a state that is weighed already.
+pub(crate) fn weigh_opcode(
+    instruction: Instruction,
+    state: Weighed,
+    weights: [XFieldElement; 11],
+) -> Weighed
+    requires { ⌜ Few 10 state ⌝ }
+    ensures { λ r. ⌜ (weighedOf r ≡ sum (scale (opcodeOf instruction) (getD weights 0 zero)) (weighedOf state)) × Few 11 r ⌝ }
+{
+    weigh_more(isa::opcode(instruction), weights[0], state)
+}
+
+// A state's weights, where no opcode is weighed.
+pub(crate) fn state_weights(weights: [XFieldElement; 10]) -> [XFieldElement; 11]
+    ensures { λ r. ⌜ r ≡ zero ∷ map (λ i. getD weights i zero) (upTo 10) ⌝ }
+{
+    [
+        XFieldElement::ZERO,
+        weights[0],
+        weights[1],
+        weights[2],
+        weights[3],
+        weights[4],
+        weights[5],
+        weights[6],
+        weights[7],
+        weights[8],
+        weights[9],
+    ]
+}

@@ -1,0 +1,43 @@
+// Extension: the auxiliary table of the processor, eleven columns of three words.
+use extend_answer::extend_answer;
+use extend_denominators::unchecked::invert_denominators;
+use extend_table::unchecked::write_cells;
+use refusal::Answer;
+ghost use mathlib.Core.Path.{_≡_};
+ghost use lib.ListN.{length, replicate};
+ghost use Rattle.extend_answer.specs.Answer.{extendAnswer};
+ghost use Rattle.extend.specs.Extend.{extendAux, extendWork};
+
+// Writes every cell and leaves zeros in `work`, or writes nothing where it refuses. The cells don't depend on the chunk length.
+pub fn extend(
+    main: &[u64],
+    challenges: &[u64],
+    chunk: usize,
+    aux: &mut [u64],
+    work: &mut [u64],
+) -> Answer
+    ensures answer { λ r. ⌜ r ≡ extendAnswer (now (main .entry)) (now (challenges .entry)) chunk (now (aux .entry)) (now (work .entry)) ⌝ }
+    ensures extended { λ r. ⌜ now (aux .exit) ≡ extendAux (now (main .entry)) (now (challenges .entry)) chunk (now (aux .entry)) (now (work .entry)) ⌝ }
+    ensures cleared { λ r. ⌜ now (work .exit) ≡ extendWork (now (main .entry)) (now (challenges .entry)) chunk (now (aux .entry)) (now (work .entry)) ⌝ }
+{
+    let answer = extend_answer(main, challenges, chunk, aux, work);
+    match answer {
+        Answer::Refused(refusal) => Answer::Refused(refusal),
+        Answer::Done => {
+            invert_denominators(main, challenges, work);
+            write_cells(main, challenges, work, aux);
+            clear(work);
+            Answer::Done
+        }
+    }
+}
+
+fn clear(work: &mut [u64])
+    ensures { λ r. ⌜ now (work .exit) ≡ replicate (length (now (work .entry))) 0 ⌝ }
+{
+    let mut i: usize = 0;
+    while i < work.len() {
+        work[i] = 0;
+        i += 1;
+    }
+}

@@ -1,8 +1,0 @@
--- The text of a batch.
-use mathlib.Core.List.{List}
-use Prim.Native.Nat.{ℕ}
-use Rattle.cell_text.specs.Text.{textOf}
-use Rattle.batch_cells.specs.Terminals.{terminalsAnswer, terminalsCells}
-
-unfoldable pub terminalsText : List ℕ → List ℕ
-terminalsText batch = textOf (terminalsAnswer batch) (terminalsCells batch)

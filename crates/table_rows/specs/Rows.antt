@@ -1,0 +1,21 @@
+-- A table is its rows of 39 words, one after the other.
+use mathlib.Core.Bool.{Bool}
+use mathlib.Core.List.{List, [], _++_}
+use Prim.Native.Nat.{ℕ, zero, suc, _*_, _/_, _%_}
+use lib.Dec.{eqb}
+use lib.ListN.{length, take, drop}
+use Rattle.air.specs.MainColumn.{MAIN-WIDTH}
+
+abbrev pub wholeRows : List ℕ → Bool
+wholeRows table = eqb (length table % MAIN-WIDTH) 0
+
+abbrev pub rows : List ℕ → ℕ
+rows table = length table / MAIN-WIDTH
+
+abbrev pub rowAt : List ℕ → ℕ → List ℕ
+rowAt table c = take MAIN-WIDTH (drop (c * MAIN-WIDTH) table)
+
+-- n rows from row c on, row by row
+unfoldable pub rowsFrom : (ℕ → List ℕ) → ℕ → ℕ → List ℕ
+rowsFrom row c zero = []
+rowsFrom row c (suc n) = row c ++ rowsFrom row (suc c) n

@@ -1,0 +1,43 @@
+-- The test, and what `put_element` does with the answer.
+use borrow.Author.Needs.{needs}
+use borrow.Author.Tests.{eq-eqb, ne-eqb}
+use mathlib.Core.Path.{ap, _∙_}
+use Rattle.field.specs.Answers.{elementScale}
+use Rattle.tealbobbin_answers.specs.Field.{elementNumberInto, elementInto}
+use Rattle.tealbobbin.proofs.tealbobbin_element_scale.Statement.{statement}
+use Rattle.tealbobbin.proofs.tealbobbin_element_scale.Tie as tie
+
+returns : tie.Need-returns
+returns c = let e = ne-eqb _ 3 (c .if1 .taken) in (rw e, rw e)
+
+element-at-requires : tie.Need-element-at-requires
+element-at-requires c κs = search needs
+
+element-scale-requires : tie.Need-element-scale-requires
+element-scale-requires c κs = search needs
+
+put-element-requires : tie.Need-put-element-requires
+put-element-requires c κs = search needs
+
+same-length : tie.Need-same-length
+same-length c = search needs
+
+returns-2 : tie.Need-returns-2
+returns-2 c =
+    let c1 = c .before .before .before .before .before in
+    let e = eq-eqb _ 3 (c1 .before .if1 .left) in
+    let put = c .before .before .put-element .ensures in
+    let answer = c .before .before .before .before .element-scale .ensures ∙ ap ((elementScale (c1 .before .before .before .before .args .k))) (c1 .element-at .ensures) in
+    let out = c1 .before .before .before .before .args .out .now in
+    (rw e (put .0 ∙ ap (elementNumberInto out) answer), rw e (put .1 ∙ ap (elementInto out) answer))
+
+pub tealbobbin-element-scale-spec : {M : Type 1} → statement M
+tealbobbin-element-scale-spec =
+    tie.close
+    (tie.spec
+    returns
+    element-at-requires
+    element-scale-requires
+    put-element-requires
+    same-length
+    returns-2)

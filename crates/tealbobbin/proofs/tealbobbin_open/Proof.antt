@@ -1,0 +1,97 @@
+-- What `open` answers and leaves, where `counts` has six words.
+use mathlib.Core.Path.{_≡_, sym, ap, _∙_}
+use mathlib.Core.List.{List}
+use Prim.Native.Nat.{ℕ}
+use lib.ListN.{length}
+use borrow.Author.Tests.{eq-eqb, ne-eqb}
+use Rattle.batch.specs.Open.{openAnswer, openNumber, openSlice}
+use Rattle.tealbobbin_answers.specs.Open.{Slices, slices, openInto}
+use borrow.Author.Needs.{needs}
+use Rattle.tealbobbin.proofs.tealbobbin_open.Statement.{statement}
+use Rattle.tealbobbin.proofs.tealbobbin_open.Tie as tie
+
+six : (batch : List ℕ) (lent : Slices) → length (lent .counts) ≡ 6
+    → openInto batch lent
+    ≡ openAnswer batch (length (lent .trace)) (length (lent .op-stack)) (length (lent .ram)) (length (lent .jump-stack)) (length (lent .sampled))
+    (length (lent .digest)) (length (lent .input)) (length (lent .output))
+unfolding openInto
+six batch lent h = rw (eq-eqb _ 6 h)
+
+returns : tie.Need-returns
+unfolding openInto openSlice
+returns c = let e = ne-eqb _ 6 (c .if1 .taken) in (rw e, rw e)
+
+open-requires : tie.Need-open-requires
+open-requires c κs = search needs
+
+put-counts-requires : tie.Need-put-counts-requires
+put-counts-requires c κs = search needs
+
+same-length : tie.Need-same-length
+same-length c = search needs
+
+same-length-2 : tie.Need-same-length-2
+same-length-2 c = search needs
+
+same-length-3 : tie.Need-same-length-3
+same-length-3 c = search needs
+
+same-length-4 : tie.Need-same-length-4
+same-length-4 c = search needs
+
+same-length-5 : tie.Need-same-length-5
+same-length-5 c = search needs
+
+same-length-6 : tie.Need-same-length-6
+same-length-6 c = search needs
+
+same-length-7 : tie.Need-same-length-7
+same-length-7 c = search needs
+
+same-length-8 : tie.Need-same-length-8
+same-length-8 c = search needs
+
+same-length-9 : tie.Need-same-length-9
+same-length-9 c = search needs
+
+returns-2 : tie.Need-returns-2
+returns-2 c =
+    let put = c .before .before .put-counts .ensures in
+    let at-open = c .before .before .before .before .before .before .before .before .before .before .before .before .before .before .before .before .before .before .before .before in
+    let o = at-open .open .ensures in
+    let tested = at-open .before .before .before .before .before .before .before .before .before in
+    let args = tested .before .before .before .before .before .before .before .before .before .before .before .args in
+    let lent = slices (args .trace .now) (args .op-stack .now) (args .ram .now) (args .jump-stack .now) (args .sampled .now) (args .digest .now) (args .input .now) (args .output .now) (args .counts .now) in
+    let same = six (args .batch .now) lent (tested .if1 .left) ∙ sym (o .0) in (
+      put .0 ∙ ap openNumber (sym same),
+      rw (
+        same,
+        o .1 .0,
+        o .1 .1 .0,
+        o .1 .1 .1 .0,
+        o .1 .1 .1 .1 .0,
+        o .1 .1 .1 .1 .1 .0,
+        o .1 .1 .1 .1 .1 .1 .0,
+        o .1 .1 .1 .1 .1 .1 .1 .0,
+        o .1 .1 .1 .1 .1 .1 .1 .1,
+        put .1,
+      ),
+    )
+
+pub tealbobbin-open-spec : {M : Type 1} → statement M
+tealbobbin-open-spec =
+    tie.close
+    (tie.spec
+    returns
+    open-requires
+    put-counts-requires
+    same-length
+    same-length-2
+    same-length-3
+    same-length-4
+    same-length-5
+    same-length-6
+    same-length-7
+    same-length-8
+    same-length-9
+    returns-2)

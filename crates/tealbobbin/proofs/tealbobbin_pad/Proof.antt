@@ -1,0 +1,23 @@
+-- What `pad` answers and leaves.
+use borrow.Author.Needs.{needs}
+use mathlib.Core.Path.{ap, _∙_}
+use Rattle.refusal.specs.Number.{answerNumberOf}
+use Rattle.tealbobbin.proofs.tealbobbin_pad.Statement.{statement}
+use Rattle.tealbobbin.proofs.tealbobbin_pad.Tie as tie
+
+pad-requires : tie.Need-pad-requires
+pad-requires c κs = search needs
+
+answer-number-requires : tie.Need-answer-number-requires
+answer-number-requires c κs = search needs
+
+same-length : tie.Need-same-length
+same-length c = search needs
+
+returns : tie.Need-returns
+returns c =
+    let done = c .before .before .before .pad .ensures in
+    (c .answer-number .ensures ∙ ap answerNumberOf (done .0), done .1)
+
+pub tealbobbin-pad-spec : {M : Type 1} → statement M
+tealbobbin-pad-spec = tie.close (tie.spec pad-requires answer-number-requires same-length returns)

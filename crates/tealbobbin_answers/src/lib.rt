@@ -1,0 +1,69 @@
+// How answers are written for the C ABI.
+use field::ElementAnswer;
+use field_base::BaseAnswer;
+use isa_decoding::DecodeAnswer;
+use isa_decoding::Decoded;
+ghost use mathlib.Core.Path.{_≡_};
+ghost use Rattle.tealbobbin_answers.specs.Decode.{decodeNumberInto, decodeInto};
+ghost use Rattle.tealbobbin_answers.specs.Field.{baseNumberInto, baseInto, elementNumberInto, elementInto};
+
+pub mod unchecked;
+
+// Hands a base answer out through a slice of one word.
+pub fn put_base(answer: BaseAnswer, out: &mut [u64]) -> u32
+    ensures number { λ r. ⌜ r ≡ baseNumberInto (now (out .entry)) answer ⌝ }
+    ensures written { λ r. ⌜ now (out .exit) ≡ baseInto (now (out .entry)) answer ⌝ }
+{
+    if out.len() != 1 {
+        return 1;
+    }
+    match answer {
+        BaseAnswer::Word(w) => {
+            out[0] = w;
+            0
+        }
+        BaseAnswer::Refused(refusal) => refusal::number(refusal),
+    }
+}
+
+// Hands an element answer out through a slice of three words.
+pub fn put_element(answer: ElementAnswer, out: &mut [u64]) -> u32
+    ensures number { λ r. ⌜ r ≡ elementNumberInto (now (out .entry)) answer ⌝ }
+    ensures written { λ r. ⌜ now (out .exit) ≡ elementInto (now (out .entry)) answer ⌝ }
+{
+    if out.len() != 3 {
+        return 1;
+    }
+    match answer {
+        ElementAnswer::Element(e) => {
+            field::unchecked::put_element(out, 0, e);
+            0
+        }
+        ElementAnswer::Refused(refusal) => refusal::number(refusal),
+    }
+}
+
+// Hands what a row decodes to out through a slice of two words.
+pub fn put_decoded(answer: DecodeAnswer, out: &mut [u64]) -> u32
+    ensures number { λ r. ⌜ r ≡ decodeNumberInto (now (out .entry)) answer ⌝ }
+    ensures written { λ r. ⌜ now (out .exit) ≡ decodeInto (now (out .entry)) answer ⌝ }
+{
+    if out.len() != 2 {
+        return 1;
+    }
+    match answer {
+        DecodeAnswer::Row(decoded) => match decoded {
+            Decoded::Read(i) => {
+                out[0] = 1;
+                out[1] = isa::opcode(i);
+                0
+            }
+            Decoded::Nothing => {
+                out[0] = 0;
+                out[1] = 0;
+                0
+            }
+        },
+        DecodeAnswer::Refused(refusal) => refusal::number(refusal),
+    }
+}

@@ -1,0 +1,290 @@
+-- Term 1 holds: an answer is a chain of tests, each with its refusal, and what a slice holds afterwards goes by cases on the answer.
+use mathlib.Core.Path.{_≡_, refl}
+use mathlib.Core.Bool.{Bool, true, false, cond, not, _&&_, _||_}
+use mathlib.Core.List.{List, [], _∷_, _++_, List·Memᴰ·head, List·Memᴰ·tail}
+use Prim.Native.Nat.{ℕ, zero, suc, _*_, _-_}
+use lib.Dec.{T, eqb, ltb}
+use lib.ListN.{length, take, drop, getD, replicate}
+use borrow.Author.Tests.{eqb-true}
+use Rattle.algebra.specs.Modulus as base
+use Rattle.algebra.specs.Modulus.{p}
+use Rattle.refusal.specs.Number.{numberOf, answerNumberOf, onDone}
+use Rattle.refusal.specs.Long.{isLong}
+use Rattle.refusal.specs.declared.Refusal.{Refusal}
+use Rattle.refusal.specs.declared.Refusal.the-variants.{SliceLength, WordNotBelowP, RowCount, DifferenceTooLarge, ChunkLengthZero, ZeroDenominator, UnknownCommand, BatchCutOff, CommandOutOfPlace}
+use Rattle.refusal.specs.declared.Answer.{Answer}
+use Rattle.refusal.specs.declared.Answer.the-variants.{Done, Refused}
+use Rattle.field_base.specs.Words.{allBelow}
+use Rattle.field_base.specs.Answers.{baseNumber, baseChecked, baseAdd, baseSub, baseMul, baseInverse}
+use Rattle.field_base.specs.declared.BaseAnswer.{BaseAnswer}
+use Rattle.field_base.specs.declared.BaseAnswer.the-variants as base-answer
+use Rattle.field.specs.Answers as answers
+use Rattle.field.specs.Answers.{elementAdd, elementSub, elementMul, elementScale, elementInverse}
+use Rattle.field.specs.Element.{elementAt, canonical, isZero, sum, difference, product, scale, inverse}
+use Rattle.field.specs.declared.XFieldElement.{XFieldElement}
+use Rattle.field.specs.declared.ElementAnswer.{ElementAnswer}
+use Rattle.field.specs.declared.ElementAnswer.the-variants as element-answer
+use Rattle.air.specs.MainColumn.{MAIN-WIDTH, CI, NIA}
+use Rattle.isa_decoding.specs.Decode.{decoded}
+use Rattle.isa_decoding.specs.Answer.{decodeAnswer, answerNumber, answerWords}
+use Rattle.isa_decoding.specs.declared.DecodeAnswer.{DecodeAnswer}
+use Rattle.isa_decoding.specs.declared.DecodeAnswer.the-variants as decode-answer
+use Rattle.challenges.specs.Derived as challenges
+use Rattle.challenges.specs.Derived.{challengesAnswer, challengesRecord, derivedRecord, allWordsBelow}
+use Rattle.scan_steps.specs.Scan.{scannedMaps, scannedProducts, scannedSums}
+use Rattle.running_arguments.specs.Answers.{wholeItems, scanAnswer, scanWords}
+use Rattle.table_rows.specs.Rows.{wholeRows, rows}
+use Rattle.table_fill.specs.Fill.{allUnder, multiplicity, filled, fillAnswer, fillTable}
+use Rattle.table_pad.specs.Pad.{padded, padAnswer, padTable}
+use Rattle.column_entries.specs.Denominators.{zeroDenominator}
+use Rattle.extend_table.specs.Extended.{extended}
+use Rattle.extend_answer.specs.Answer as extension
+use Rattle.extend_answer.specs.Answer.{extendAnswer}
+use Rattle.extend_answer.proofs.Accepted.{wrongRows, wrongWords}
+use Rattle.extend.specs.Extend.{extendAux, extendWork}
+use Rattle.batch_commands.specs.Format.{END, width, wordsIn}
+use Rattle.batch_commands.specs.Fault.{outOfPlace, wrongRowCount, judged, fault}
+use Rattle.batch_reader.specs.Commands.{Command, counts, announced}
+use Rattle.batch_reader.specs.Reading.{Reading, read, unless, readFrom, reading}
+use Rattle.batch_reader.specs.Answers.{answerOf}
+use Rattle.batch_reader.specs.declared.OpenAnswer.{OpenAnswer}
+use Rattle.batch_reader.specs.declared.OpenAnswer.the-variants as open-answer
+use Rattle.batch.specs.Open as batch
+use Rattle.batch.specs.Open.{openNumber, openAnswer, openSlice}
+use Rattle.tealbobbin_answers.specs.Field.{isWord, isElement, baseWritten, elementWritten, elementNumberInto, elementInto, unaryNumber, unaryOut}
+use Rattle.tealbobbin_answers.specs.Open.{Slices, openInto, slicesBy}
+use Rattle.terms.specs.Term1.{_∈_, Answers, OnWords, OnElement, OnElements, Scans, Term1}
+use Rattle.terms.proofs.Tests.{every, and-both}
+
+-- whether a number stands in a list
+abbrev stands : List ℕ → ℕ → Bool
+stands [] n = false
+stands (m ∷ ms) n = eqb n m || stands ms n
+
+here-or : {n : ℕ} (m : ℕ) {ms : List ℕ} (same : Bool) → eqb n m ≡ same → T (same || stands ms n) → (T (stands ms n) → n ∈ ms) → n ∈ m ∷ ms
+here-or {n} m true e t later = List·Memᴰ·head (eqb-true n m e)
+here-or m false e t later = List·Memᴰ·tail (later t)
+
+found : {n : ℕ} (ms : List ℕ) → T (stands ms n) → n ∈ ms
+found [] t = absurd t
+found {n} (m ∷ ms) t = here-or m (eqb n m) refl t (found ms)
+
+-- a refusal of the line
+listed : {line : List ℕ} (r : Refusal) → T (stands line (numberOf r)) → numberOf r ∈ 0 ∷ line
+listed {line} r t = List·Memᴰ·tail (found line t)
+
+zero-listed : {line : List ℕ} → 0 ∈ 0 ∷ line
+zero-listed = List·Memᴰ·head refl
+
+chosen : {A : Type 0} {ns : List ℕ} (number : A → ℕ) (test : Bool) (a b : A) → number a ∈ ns → number b ∈ ns → number (cond test a b) ∈ ns
+chosen number true a b f g = f
+chosen number false a b f g = g
+
+abbrev Tests : Type 0
+Tests = List (Bool × Refusal)
+
+-- the refusals of the tests stand in the line
+abbrev Listed : List ℕ → Tests → Type 0
+Listed line ts = T (every (λ t. stands line (numberOf (t .1))) ts)
+
+-- tests in their order, each with its refusal, and what is answered past them
+abbrev chain : {A : Type 0} → (Refusal → A) → Tests → A → A
+chain refuse [] last = last
+chain refuse (t ∷ ts) last = cond (t .0) (refuse (t .1)) (chain refuse ts last)
+
+by-tests : {A : Type 0} {line : List ℕ} (refuse : Refusal → A) (number : A → ℕ) → ((r : Refusal) → number (refuse r) ≡ numberOf r)
+    → (ts : Tests) → Listed line ts → (last : A) → number last ∈ 0 ∷ line → number (chain refuse ts last) ∈ 0 ∷ line
+by-tests refuse number numbered [] l last f = f
+by-tests {line} refuse number numbered (t ∷ ts) l last f =
+    let both = and-both (stands line (numberOf (t .1))) (every (λ u. stands line (numberOf (u .1))) ts) l in
+    chosen number (t .0) (refuse (t .1)) (chain refuse ts last)
+    (rw (numbered (t .1)) (listed (t .1) (both .0)))
+    (by-tests refuse number numbered ts (both .1) last f)
+
+-- past a success nothing is asked of the slices
+done : {line : List ℕ} {unchanged : Type 0} → Answers line 0 unchanged
+done = record { fixed = zero-listed; kept = λ ne. absurd (ne refl) }
+
+refused : {line : List ℕ} {number : ℕ} {unchanged : Type 0} → number ∈ 0 ∷ line → unchanged → Answers line number unchanged
+refused f u = record { fixed = f; kept = λ ne. u }
+
+-- a slice of the wrong length brings 1
+guarded : {line : List ℕ} (right : Bool) (number : ℕ) (after out : List ℕ) → T (stands line 1) → Answers line number (after ≡ out)
+    → Answers line (cond right number 1) (cond right after out ≡ out)
+guarded true number after out t a = a
+guarded false number after out t a = refused (listed SliceLength t) refl
+
+on-words : {line : List ℕ} (answer : BaseAnswer) → T (stands line 1) → baseNumber answer ∈ 0 ∷ line → OnWords line answer
+on-words {line} answer t fixed out = guarded (isWord out) (baseNumber answer) (baseWritten out answer) out t (go answer fixed)
+  where
+    go : (a : BaseAnswer) → baseNumber a ∈ 0 ∷ line → Answers line (baseNumber a) (baseWritten out a ≡ out)
+    go (base-answer.Word w) f = done
+    go (base-answer.Refused r) f = refused f refl
+
+on-element : {line : List ℕ} (f : XFieldElement → ElementAnswer) → T (stands line 1) → ((e : XFieldElement) → answers.elementNumber (f e) ∈ 0 ∷ line) → OnElement line f
+on-element {line} f t fixed a out =
+    let answer = f (elementAt a 0) in
+    guarded (isElement a) (elementNumberInto out answer) (elementInto out answer) out t
+    (guarded (isElement out) (answers.elementNumber answer) (elementWritten out answer) out t (go answer (fixed (elementAt a 0))))
+  where
+    go : (b : ElementAnswer) → answers.elementNumber b ∈ 0 ∷ line → Answers line (answers.elementNumber b) (elementWritten out b ≡ out)
+    go (element-answer.Element e) f = done
+    go (element-answer.Refused r) f = refused f refl
+
+on-elements : {line : List ℕ} (f : XFieldElement → XFieldElement → ElementAnswer) → T (stands line 1)
+    → ((d e : XFieldElement) → answers.elementNumber (f d e) ∈ 0 ∷ line) → OnElements line f
+on-elements f t fixed a b out =
+    let g = f (elementAt a 0) in
+    guarded (isElement a) (unaryNumber g b out) (unaryOut g b out) out t (on-element g t (fixed (elementAt a 0)) b out)
+
+-- a word not below p brings 2
+base-checked : {line : List ℕ} (below : Bool) (answer : BaseAnswer) → T (stands line 2) → baseNumber answer ∈ 0 ∷ line → baseNumber (baseChecked below answer) ∈ 0 ∷ line
+base-checked below answer t f = chosen baseNumber below answer (base-answer.Refused WordNotBelowP) f (listed WordNotBelowP t)
+
+element-checked : {line : List ℕ} (below : Bool) (answer : ElementAnswer) → T (stands line 2) → answers.elementNumber answer ∈ 0 ∷ line
+    → answers.elementNumber (answers.elementChecked below answer) ∈ 0 ∷ line
+element-checked below answer t f = chosen answers.elementNumber below answer (element-answer.Refused WordNotBelowP) f (listed WordNotBelowP t)
+
+decode-kept : {line : List ℕ} (a : DecodeAnswer) → answerNumber a ∈ 0 ∷ line → (out : List ℕ) → Answers line (answerNumber a) (answerWords a out ≡ out)
+decode-kept (decode-answer.Row d) f out = done
+decode-kept (decode-answer.Refused r) f out = refused f refl
+
+-- operations that answer `Answer`
+by-refusals : {line : List ℕ} (ts : Tests) → Listed line ts → answerNumberOf (chain Refused ts Done) ∈ 0 ∷ line
+by-refusals ts l = by-tests Refused answerNumberOf (λ r. refl) ts l Done zero-listed
+
+on-done : {line : List ℕ} (answer : Answer) → answerNumberOf answer ∈ 0 ∷ line → (result slice : List ℕ)
+    → Answers line (answerNumberOf answer) (onDone answer result slice ≡ slice)
+on-done Done f result slice = done
+on-done (Refused r) f result slice = refused f refl
+
+scans : {line : List ℕ} → T (every (stands line) (1 ∷ 5 ∷ 2 ∷ [])) → (width : ℕ) (scanned : List ℕ → List ℕ) → Scans line width scanned
+unfolding scanAnswer scanWords
+scans t width scanned items chunk =
+    on-done (scanAnswer width items chunk)
+    (by-refusals ((not (wholeItems width items), SliceLength) ∷ (eqb chunk 0, ChunkLengthZero) ∷ (not (allBelow items), WordNotBelowP) ∷ []) t)
+    (scanned items) items
+
+abbrev readNumber : Reading → ℕ
+readNumber r = openNumber (answerOf r)
+
+-- the refusals of a batch's commands
+module _ (line : List ℕ) (t : T (every (stands line) (7 ∷ 8 ∷ 9 ∷ 3 ∷ 2 ∷ []))) where
+  cut-off : 8 ∈ 0 ∷ line
+  cut-off =
+      let later = and-both (stands line 7) (every (stands line) (8 ∷ 9 ∷ 3 ∷ 2 ∷ [])) t .1 in
+      listed BatchCutOff (and-both (stands line 8) (every (stands line) (9 ∷ 3 ∷ 2 ∷ [])) later .0)
+
+  command : (rows : ℕ) (came : List ℕ) (code : ℕ) (bytes : List ℕ) → answerNumberOf (fault rows came code bytes) ∈ 0 ∷ line
+  unfolding fault judged
+  command rows came code bytes =
+      by-refusals
+      ((ltb 9 code, UnknownCommand)
+      ∷ (ltb (length bytes) (width code), BatchCutOff)
+      ∷ (outOfPlace rows came code (length bytes - width code), CommandOutOfPlace)
+      ∷ (wrongRowCount code (take (width code) bytes), RowCount)
+      ∷ (not (allBelow (wordsIn code bytes)), WordNotBelowP)
+      ∷ []) t
+
+  unless-refused : (answer : Answer) (next : Reading) → answerNumberOf answer ∈ 0 ∷ line → readNumber next ∈ 0 ∷ line → readNumber (unless answer next) ∈ 0 ∷ line
+  unless-refused Done next f g = g
+  unless-refused (Refused r) next f g = f
+
+  batch-read : (n : ℕ) (before : List Command) (bytes : List ℕ) → readNumber (readFrom n before bytes) ∈ 0 ∷ line
+  unfolding readFrom
+  batch-read zero before bytes = cut-off
+  batch-read (suc n) before [] = cut-off
+  batch-read (suc n) before (code ∷ bytes) =
+      let next = before ++ (record { code = code; operand = take (width code) bytes } ∷ []) in
+      let rest = readFrom n next (drop (width code) bytes) in
+      unless-refused (fault (announced before) (counts before) code bytes) (cond (eqb code END) (read before) rest)
+      (command (announced before) (counts before) code bytes)
+      (chosen readNumber (eqb code END) (read before) rest zero-listed (batch-read n next (drop (width code) bytes)))
+
+module _ (bytes : List ℕ) (lent : Slices) where
+  open-kept : {line : List ℕ} (answer : OpenAnswer) → openNumber answer ∈ 0 ∷ line
+      → Answers line (openNumber answer) (slicesBy answer bytes lent ≡ lent)
+  unfolding openSlice
+  open-kept (open-answer.Opened c) f = done
+  open-kept (open-answer.Refused r) f = refused f refl
+
+pub term1 : Term1
+unfolding decodeAnswer challengesAnswer challengesRecord fillAnswer fillTable padAnswer padTable extendAnswer extendAux extendWork openInto openAnswer reading
+term1 =
+    record {
+      base-add = λ a b. on-words (baseAdd a b) tt (base-checked (ltb a p && ltb b p) (base-answer.Word (base.plus a b)) tt zero-listed);
+      base-sub = λ a b. on-words (baseSub a b) tt (base-checked (ltb a p && ltb b p) (base-answer.Word (base.minus a b)) tt zero-listed);
+      base-mul = λ a b. on-words (baseMul a b) tt (base-checked (ltb a p && ltb b p) (base-answer.Word (base.times a b)) tt zero-listed);
+      base-inverse = λ a.
+          let word = base-answer.Word (base.inverse a) in
+          on-words (baseInverse a) tt
+          (base-checked (ltb a p) (cond (eqb a 0) (base-answer.Refused ZeroDenominator) word) tt
+          (chosen baseNumber (eqb a 0) (base-answer.Refused ZeroDenominator) word (listed ZeroDenominator tt) zero-listed));
+      element-add = on-elements elementAdd tt (λ d e. element-checked (canonical d && canonical e) (element-answer.Element (sum d e)) tt zero-listed);
+      element-sub = on-elements elementSub tt (λ d e. element-checked (canonical d && canonical e) (element-answer.Element (difference d e)) tt zero-listed);
+      element-mul = on-elements elementMul tt (λ d e. element-checked (canonical d && canonical e) (element-answer.Element (product d e)) tt zero-listed);
+      element-scale = λ k. on-element (elementScale k) tt (λ e. element-checked (ltb k p && canonical e) (element-answer.Element (scale k e)) tt zero-listed);
+      element-inverse =
+          on-element elementInverse tt
+          (λ e.
+          let element = element-answer.Element (inverse e) in
+          element-checked (canonical e) (cond (isZero e) (element-answer.Refused ZeroDenominator) element) tt
+          (chosen answers.elementNumber (isZero e) (element-answer.Refused ZeroDenominator) element (listed ZeroDenominator tt) zero-listed));
+      decode = λ row out.
+          guarded (eqb (length out) 2) (answerNumber (decodeAnswer row)) (answerWords (decodeAnswer row) out) out tt
+          (decode-kept (decodeAnswer row)
+          (by-tests decode-answer.Refused answerNumber (λ r. refl) ((not (eqb (length row) MAIN-WIDTH), SliceLength) ∷ (not (allBelow row), WordNotBelowP) ∷ []) tt
+          (decode-answer.Row (decoded (getD row CI 0) (getD row NIA 0))) zero-listed)
+          out);
+      challenges = λ sampled digest input output lent.
+          on-done (challengesAnswer sampled digest input output lent)
+          (by-refusals
+          ((not (challenges.rightLengths sampled digest input output lent), SliceLength)
+          ∷ (not (allWordsBelow sampled digest input output), WordNotBelowP)
+          ∷ []) tt)
+          (derivedRecord sampled digest input output) lent;
+      scan-maps = scans tt 6 scannedMaps;
+      scan-products = scans tt 3 scannedProducts;
+      scan-sums = scans tt 3 scannedSums;
+      fill = λ trace op-stack ram jump-stack table.
+          on-done (fillAnswer trace op-stack ram jump-stack table)
+          (by-refusals
+          ((not (wholeRows trace && wholeRows table) || isLong (length op-stack) || isLong (length ram) || isLong (length jump-stack), SliceLength)
+          ∷ (isLong (rows table) || ltb (rows table) (rows trace), RowCount)
+          ∷ (not (allBelow trace && allBelow op-stack && allBelow ram && allBelow jump-stack), WordNotBelowP)
+          ∷ (not (allUnder (rows trace) op-stack && allUnder (rows trace) ram && allUnder (rows trace) jump-stack), DifferenceTooLarge)
+          ∷ []) tt)
+          (filled trace (multiplicity op-stack ram jump-stack) table) table;
+      pad = λ table len.
+          on-done (padAnswer table len)
+          (by-refusals
+          ((not (wholeRows table), SliceLength)
+          ∷ (ltb (rows table) 2 || isLong (rows table) || eqb len 0 || ltb (rows table) len, RowCount)
+          ∷ (not (allBelow (take (len * MAIN-WIDTH) table)), WordNotBelowP)
+          ∷ []) tt)
+          (padded table len) table;
+      extend = λ main challenges chunk aux work.
+          let answer = extendAnswer main challenges chunk aux work in
+          let fixed = by-refusals
+          ((not (extension.rightLengths main challenges aux work), SliceLength)
+          ∷ (wrongRows main, RowCount)
+          ∷ (eqb chunk 0, ChunkLengthZero)
+          ∷ (wrongWords main challenges, WordNotBelowP)
+          ∷ (zeroDenominator main challenges, ZeroDenominator)
+          ∷ []) tt in
+          record {
+            fixed = fixed;
+            kept = λ ne. (on-done answer fixed (extended main challenges) aux .kept ne, on-done answer fixed (replicate (length work) 0) work .kept ne);
+          };
+      open-batch = λ bytes lent.
+          let answer = openAnswer bytes (length (lent .trace)) (length (lent .op-stack)) (length (lent .ram)) (length (lent .jump-stack)) (length (lent .sampled))
+          (length (lent .digest)) (length (lent .input)) (length (lent .output)) in
+          let lengths = batch.rightLengths (length (lent .trace)) (length (lent .op-stack)) (length (lent .ram)) (length (lent .jump-stack)) (length (lent .sampled))
+          (length (lent .digest)) (length (lent .input)) (length (lent .output)) in
+          open-kept bytes lent
+          (cond (eqb (length (lent .counts)) 6) answer (open-answer.Refused SliceLength))
+          (chosen openNumber (eqb (length (lent .counts)) 6) answer (open-answer.Refused SliceLength)
+          (by-tests open-answer.Refused openNumber (λ r. refl) ((ltb batch.MAX-BYTES (length bytes) || not lengths, SliceLength) ∷ []) tt
+          (answerOf (reading bytes)) (batch-read _ tt (length bytes) [] bytes))
+          (listed SliceLength tt));
+    }

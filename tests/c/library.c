@@ -1,0 +1,885 @@
+/*
+ * Calls every function of the header: done, with what it writes, and refused with each of its numbers, after which no slice has
+ * changed. A function has a test of its name, and a line in `tests` with the refusals that it may give.
+ *
+ * Prints a line for each failure, and last the number of checks. Exit status 1 if one failed.
+ */
+#include "lend.h"
+
+enum { ELEMENT = TEALBOBBIN_ELEMENT_WORDS, MAP = TEALBOBBIN_MAP_WORDS };
+enum { ROW = TEALBOBBIN_MAIN_WIDTH, MAX_LEN = TEALBOBBIN_MAX_LEN };
+enum { CI = TEALBOBBIN_MAIN_CI, NIA = TEALBOBBIN_MAIN_NIA, ST0 = TEALBOBBIN_MAIN_ST0, ST1 = TEALBOBBIN_MAIN_ST1 };
+enum { CLK = TEALBOBBIN_MAIN_CLK, MULTIPLICITY = TEALBOBBIN_MAIN_CLOCK_JUMP_DIFFERENCE_LOOKUP_MULTIPLICITY };
+
+static const size_t chunks[] = {1, 2, 3, 4, 1000, SIZE_MAX};
+
+/* Base elements. */
+
+#define HALF UINT64_C(9223372034707292161)
+
+static void of_two_words(uint32_t (*call)(uint64_t, uint64_t, uint64_t *, size_t))
+{
+    uint64_t *out = lend(2);
+    REFUSED(1, call(1, 2, out, 0));
+    REFUSED(1, call(1, 2, NULL, 0));
+    REFUSED(1, call(P, P, out, 2));
+    REFUSED(2, call(P, 2, out, 1));
+    REFUSED(2, call(1, P, out, 1));
+    REFUSED(2, call(UINT64_MAX, UINT64_MAX, out, 1));
+}
+
+static void base_add(void)
+{
+    uint64_t *out = lend(2);
+    DONE(tealbobbin_base_add(P - 1, P - 1, out, 1));
+    HOLDS(out, P - 2);
+    DONE(tealbobbin_base_add(3, 4, out, 1));
+    HOLDS(out, 7);
+    of_two_words(tealbobbin_base_add);
+}
+
+static void base_sub(void)
+{
+    uint64_t *out = lend(2);
+    DONE(tealbobbin_base_sub(3, 4, out, 1));
+    HOLDS(out, P - 1);
+    DONE(tealbobbin_base_sub(P - 1, 4, out, 1));
+    HOLDS(out, P - 5);
+    of_two_words(tealbobbin_base_sub);
+}
+
+static void base_mul(void)
+{
+    uint64_t *out = lend(2);
+    DONE(tealbobbin_base_mul(UINT64_C(1) << 32, UINT64_C(1) << 32, out, 1));
+    HOLDS(out, (UINT64_C(1) << 32) - 1);
+    DONE(tealbobbin_base_mul(P - 1, P - 3, out, 1));
+    HOLDS(out, 3);
+    of_two_words(tealbobbin_base_mul);
+}
+
+static void base_inverse(void)
+{
+    uint64_t *out = lend(2);
+    DONE(tealbobbin_base_inverse(2, out, 1));
+    HOLDS(out, HALF);
+    DONE(tealbobbin_base_inverse(P - 1, out, 1));
+    HOLDS(out, P - 1);
+    REFUSED(1, tealbobbin_base_inverse(2, out, 0));
+    REFUSED(1, tealbobbin_base_inverse(P, out, 2));
+    REFUSED(1, tealbobbin_base_inverse(0, out, 2));
+    REFUSED(2, tealbobbin_base_inverse(P, out, 1));
+    REFUSED(6, tealbobbin_base_inverse(0, out, 1));
+}
+
+/* Elements. X * X^2 is X - 1. */
+
+static const uint64_t zero[ELEMENT] = {0, 0, 0}, x[ELEMENT] = {0, 1, 0}, x_squared[ELEMENT] = {0, 0, 1};
+static const uint64_t a_word[ELEMENT] = {5, P - 1, 7};
+
+static void of_two_elements(uint32_t (*call)(const uint64_t *, size_t, const uint64_t *, size_t, uint64_t *, size_t))
+{
+    uint64_t *a = lend(ELEMENT + 1), *b = lend(ELEMENT + 1), *out = lend(ELEMENT + 1);
+    for (size_t wrong = 0; wrong <= ELEMENT + 1; wrong += wrong == ELEMENT - 1 ? 2 : 1) {
+        REFUSED(1, call(a, wrong, b, ELEMENT, out, ELEMENT));
+        REFUSED(1, call(a, ELEMENT, b, wrong, out, ELEMENT));
+        REFUSED(1, call(a, ELEMENT, b, ELEMENT, out, wrong));
+    }
+    for (size_t i = 0; i < ELEMENT; i++)
+        a[i] = b[i] = i;
+    for (size_t i = 0; i < ELEMENT; i++) {
+        a[i] = P;
+        REFUSED(2, call(a, ELEMENT, b, ELEMENT, out, ELEMENT));
+        REFUSED(2, call(b, ELEMENT, a, ELEMENT, out, ELEMENT));
+        a[i] = i;
+    }
+}
+
+static void element_add(void)
+{
+    uint64_t *out = lend(ELEMENT + 1);
+    DONE(tealbobbin_element_add(a_word, ELEMENT, a_word, ELEMENT, out, ELEMENT));
+    HOLDS(out, 10, P - 2, 14);
+    DONE(tealbobbin_element_add(a_word, ELEMENT, x, ELEMENT, out, ELEMENT));
+    HOLDS(out, 5, 0, 7);
+    of_two_elements(tealbobbin_element_add);
+}
+
+static void element_sub(void)
+{
+    uint64_t *out = lend(ELEMENT + 1);
+    DONE(tealbobbin_element_sub(x, ELEMENT, a_word, ELEMENT, out, ELEMENT));
+    HOLDS(out, P - 5, 2, P - 7);
+    of_two_elements(tealbobbin_element_sub);
+}
+
+static void element_mul(void)
+{
+    uint64_t *out = lend(ELEMENT + 1);
+    DONE(tealbobbin_element_mul(x, ELEMENT, x_squared, ELEMENT, out, ELEMENT));
+    HOLDS(out, P - 1, 1, 0);
+    DONE(tealbobbin_element_mul(x_squared, ELEMENT, x_squared, ELEMENT, out, ELEMENT));
+    HOLDS(out, 0, P - 1, 1);
+    of_two_elements(tealbobbin_element_mul);
+}
+
+static void element_scale(void)
+{
+    uint64_t *out = lend(ELEMENT + 1), *a = lend(ELEMENT + 1);
+    DONE(tealbobbin_element_scale(3, a_word, ELEMENT, out, ELEMENT));
+    HOLDS(out, 15, P - 3, 21);
+    REFUSED(1, tealbobbin_element_scale(P, a, ELEMENT - 1, out, ELEMENT));
+    REFUSED(1, tealbobbin_element_scale(P, a, ELEMENT + 1, out, ELEMENT));
+    REFUSED(1, tealbobbin_element_scale(P, a, ELEMENT, out, ELEMENT - 1));
+    REFUSED(1, tealbobbin_element_scale(P, a, ELEMENT, out, ELEMENT + 1));
+    REFUSED(2, tealbobbin_element_scale(P, x, ELEMENT, out, ELEMENT));
+    REFUSED(2, tealbobbin_element_scale(0, a, ELEMENT, out, ELEMENT));
+}
+
+static void element_inverse(void)
+{
+    uint64_t *out = lend(ELEMENT + 1), *a = lend(ELEMENT + 1);
+    DONE(tealbobbin_element_inverse(x, ELEMENT, out, ELEMENT));
+    HOLDS(out, 1, 0, P - 1);
+    REFUSED(1, tealbobbin_element_inverse(a, ELEMENT - 1, out, ELEMENT));
+    REFUSED(1, tealbobbin_element_inverse(a, ELEMENT + 1, out, ELEMENT));
+    REFUSED(1, tealbobbin_element_inverse(zero, ELEMENT, out, ELEMENT - 1));
+    REFUSED(1, tealbobbin_element_inverse(zero, ELEMENT, out, ELEMENT + 1));
+    for (size_t i = 0; i < ELEMENT; i++) {
+        a[0] = a[1] = a[2] = 0;
+        a[i] = P;
+        REFUSED(2, tealbobbin_element_inverse(a, ELEMENT, out, ELEMENT));
+    }
+    REFUSED(6, tealbobbin_element_inverse(zero, ELEMENT, out, ELEMENT));
+}
+
+/* Instructions: 73 is read_io, with an argument from 1 to 5; 2^8 + 73 is no opcode. */
+
+static void decode(void)
+{
+    uint64_t *row = lend_zeros(ROW + 1), *out = lend(3);
+    row[CI] = 73;
+    row[NIA] = 5;
+    DONE(tealbobbin_decode(row, ROW, out, 2));
+    HOLDS(out, 1, 73);
+    KEPT(row);
+    row[NIA] = 6;
+    DONE(tealbobbin_decode(row, ROW, out, 2));
+    HOLDS(out, 0, 0);
+    row[NIA] = 0;
+    DONE(tealbobbin_decode(row, ROW, out, 2));
+    HOLDS(out, 0, 0);
+    row[CI] = 0;
+    DONE(tealbobbin_decode(row, ROW, out, 2));
+    HOLDS(out, 1, 0);
+    row[CI] = 256 + 73;
+    row[NIA] = 5;
+    DONE(tealbobbin_decode(row, ROW, out, 2));
+    HOLDS(out, 0, 0);
+    for (size_t i = 0; i < ROW; i++) {
+        uint64_t word = row[i];
+        row[i] = P;
+        REFUSED(1, tealbobbin_decode(row, ROW - 1, out, 2));
+        REFUSED(1, tealbobbin_decode(row, ROW + 1, out, 2));
+        REFUSED(1, tealbobbin_decode(row, ROW, out, 1));
+        REFUSED(1, tealbobbin_decode(row, ROW, out, 3));
+        REFUSED(2, tealbobbin_decode(row, ROW, out, 2));
+        row[i] = word;
+    }
+}
+
+/* Challenges: number k is k + 2, so that 0, 1, 2 and 54, of digest, input, output and byte table, are 2, 3, 4 and 56. */
+
+static uint64_t plus(uint64_t a, uint64_t b)
+{
+    return a >= P - b ? a - (P - b) : a + b;
+}
+
+/* factor * value + symbol modulo p. */
+static uint64_t absorbed(unsigned factor, uint64_t value, uint64_t symbol)
+{
+    for (unsigned i = 0; i < factor; i++)
+        symbol = plus(symbol, value);
+    return symbol;
+}
+
+static void challenges(void)
+{
+    enum { SAMPLED = TEALBOBBIN_SAMPLED_WORDS, DIGEST = TEALBOBBIN_DIGEST_WORDS, RECORD = TEALBOBBIN_RECORD_WORDS };
+    uint64_t *sampled = lend_zeros(SAMPLED + 1), *digest = lend_zeros(DIGEST + 1);
+    uint64_t *input = lend_zeros(2), *output = lend_zeros(1), *many = lend_many(MAX_LEN + 1);
+    uint64_t *record = lend(RECORD + 1);
+    for (size_t k = 0; k < TEALBOBBIN_SAMPLE_COUNT; k++)
+        sampled[k * ELEMENT] = k + 2;
+    for (size_t i = 0; i < DIGEST; i++)
+        digest[i] = i + 1;
+    input[0] = 5;
+    input[1] = 7;
+    output[0] = 11;
+
+    uint64_t due[RECORD];
+    uint64_t *derived = due + SAMPLED;
+    for (size_t i = 0; i < RECORD; i++)
+        due[i] = i < SAMPLED ? sampled[i] : 0;
+    derived[0] = (3 + 5) * 3 + 7;
+    derived[3] = 4 + 11;
+    derived[6] = 1;
+    for (uint64_t i = 0; i < 256; i++)
+        derived[6] = absorbed(56, derived[6], ((i + 1) * (i + 1) * (i + 1) - 1) % 257);
+    derived[9] = ((((2 + 1) * 2 + 2) * 2 + 3) * 2 + 4) * 2 + 5;
+    DONE(tealbobbin_challenges(sampled, SAMPLED, digest, DIGEST, input, 2, output, 1, record, RECORD));
+    HOLDS_WORDS(record, due, RECORD);
+    KEPT(sampled);
+    KEPT(digest);
+    KEPT(input);
+    KEPT(output);
+
+    derived[0] = derived[3] = 1;
+    DONE(tealbobbin_challenges(sampled, SAMPLED, digest, DIGEST, NULL, 0, NULL, 0, record, RECORD));
+    HOLDS_WORDS(record, due, RECORD);
+
+    derived[0] = 1;
+    for (size_t i = 0; i < MAX_LEN; i++)
+        derived[0] = absorbed(3, derived[0], 0);
+    DONE(tealbobbin_challenges(sampled, SAMPLED, digest, DIGEST, many, MAX_LEN, NULL, 0, record, RECORD));
+    HOLDS_WORDS(record, due, RECORD);
+
+    sampled[0] = P;
+    REFUSED(1, tealbobbin_challenges(sampled, SAMPLED - 1, digest, DIGEST, input, 2, output, 1, record, RECORD));
+    REFUSED(1, tealbobbin_challenges(sampled, SAMPLED + 1, digest, DIGEST, input, 2, output, 1, record, RECORD));
+    REFUSED(1, tealbobbin_challenges(sampled, SAMPLED, digest, DIGEST - 1, input, 2, output, 1, record, RECORD));
+    REFUSED(1, tealbobbin_challenges(sampled, SAMPLED, digest, DIGEST + 1, input, 2, output, 1, record, RECORD));
+    REFUSED(1, tealbobbin_challenges(sampled, SAMPLED, digest, DIGEST, many, MAX_LEN + 1, output, 1, record, RECORD));
+    REFUSED(1, tealbobbin_challenges(sampled, SAMPLED, digest, DIGEST, input, 2, many, MAX_LEN + 1, record, RECORD));
+    REFUSED(1, tealbobbin_challenges(sampled, SAMPLED, digest, DIGEST, input, 2, output, 1, record, RECORD - 1));
+    REFUSED(1, tealbobbin_challenges(sampled, SAMPLED, digest, DIGEST, input, 2, output, 1, record, RECORD + 1));
+    sampled[0] = 0;
+
+    uint64_t *checked[] = {sampled, sampled + SAMPLED - 1, digest, digest + DIGEST - 1, input, input + 1, output};
+    for (size_t i = 0; i < COUNT(checked); i++) {
+        *checked[i] = P;
+        REFUSED(2, tealbobbin_challenges(sampled, SAMPLED, digest, DIGEST, input, 2, output, 1, record, RECORD));
+        *checked[i] = 0;
+    }
+}
+
+/* Scans. */
+
+static void of_items(uint32_t (*call)(uint64_t *, size_t, size_t), size_t words)
+{
+    uint64_t *items = lend(3 * words);
+    DONE(call(NULL, 0, 1));
+    for (size_t part = 1; part < words; part++)
+        REFUSED(1, call(items, words + part, 0));
+    REFUSED(1, call(lend_many((MAX_LEN + 1) * words), (MAX_LEN + 1) * words, 0));
+    REFUSED(5, call(items, 3 * words, 0));
+    REFUSED(5, call(NULL, 0, 0));
+    for (size_t i = 0; i < 3 * words; i++)
+        items[i] = 1;
+    for (size_t i = 0; i < 3 * words; i++) {
+        items[i] = P;
+        REFUSED(2, call(items, 3 * words, 2));
+        items[i] = 1;
+    }
+}
+
+static void copy(uint64_t *to, const uint64_t *from, size_t count)
+{
+    for (size_t i = 0; i < count; i++)
+        to[i] = from[i];
+}
+
+static void scan_maps(void)
+{
+    static const uint64_t maps[3 * MAP] = {2, 0, 0, 3, 0, 0, 5, 0, 0, 7, 0, 0, 11, 0, 0, 13, 0, 0};
+    uint64_t *items = lend(COUNT(maps) + 1);
+    for (size_t c = 0; c < COUNT(chunks); c++) {
+        copy(items, maps, COUNT(maps));
+        DONE(tealbobbin_scan_maps(items, COUNT(maps), chunks[c]));
+        HOLDS(items, 2, 0, 0, 3, 0, 0, 10, 0, 0, 22, 0, 0, 110, 0, 0, 255, 0, 0);
+    }
+    of_items(tealbobbin_scan_maps, MAP);
+}
+
+static void scan_products(void)
+{
+    static const uint64_t factors[3 * ELEMENT] = {0, 1, 0, 0, 0, 1, 0, 0, 1};
+    uint64_t *items = lend(COUNT(factors) + 1);
+    for (size_t c = 0; c < COUNT(chunks); c++) {
+        copy(items, factors, COUNT(factors));
+        DONE(tealbobbin_scan_products(items, COUNT(factors), chunks[c]));
+        HOLDS(items, 0, 1, 0, P - 1, 1, 0, P - 1, 1, P - 1);
+    }
+    of_items(tealbobbin_scan_products, ELEMENT);
+}
+
+static void scan_sums(void)
+{
+    static const uint64_t summands[3 * ELEMENT] = {1, 2, 3, 4, 5, P - 1, P - 1, 0, 8};
+    uint64_t *items = lend(COUNT(summands) + 1);
+    for (size_t c = 0; c < COUNT(chunks); c++) {
+        copy(items, summands, COUNT(summands));
+        DONE(tealbobbin_scan_sums(items, COUNT(summands), chunks[c]));
+        HOLDS(items, 1, 2, 3, 5, 7, 2, 4, 7, 10);
+    }
+    of_items(tealbobbin_scan_sums, ELEMENT);
+}
+
+/* The main table. */
+
+static void fill(void)
+{
+    enum { ROWS = 3 };
+    uint64_t *trace = lend(ROWS * ROW), *table = lend((ROWS + 1) * ROW), *list = lend(3);
+    uint64_t *many = lend_many((MAX_LEN + 1) * ROW);
+    for (size_t i = 0; i < ROWS * ROW; i++)
+        trace[i] = i + 100;
+    copy(list, (const uint64_t[]){2, 2, 0}, 3);
+
+    uint64_t due[ROWS * ROW];
+    copy(due, trace, COUNT(due));
+    due[MULTIPLICITY] = 1;
+    due[ROW + MULTIPLICITY] = 0;
+    due[2 * ROW + MULTIPLICITY] = 4;
+    DONE(tealbobbin_fill(trace, ROWS * ROW, list, 3, list, 1, list + 1, 1, table, (ROWS + 1) * ROW));
+    HOLDS_WORDS(table, due, COUNT(due));
+    KEPT(trace);
+    KEPT(list);
+    due[MULTIPLICITY] = due[2 * ROW + MULTIPLICITY] = 0;
+    DONE(tealbobbin_fill(trace, ROWS * ROW, NULL, 0, NULL, 0, NULL, 0, table, ROWS * ROW));
+    HOLDS_WORDS(table, due, COUNT(due));
+    DONE(tealbobbin_fill(NULL, 0, NULL, 0, NULL, 0, NULL, 0, NULL, 0));
+    DONE(tealbobbin_fill(NULL, 0, NULL, 0, NULL, 0, NULL, 0, many, MAX_LEN * ROW));
+    KEPT(table);
+
+    copy(list, (const uint64_t[]){P, 3, 2}, 3);
+    REFUSED(1, tealbobbin_fill(trace, ROWS * ROW - 1, list, 3, NULL, 0, NULL, 0, table, ROW));
+    REFUSED(1, tealbobbin_fill(trace, ROWS * ROW, list, 3, NULL, 0, NULL, 0, table, ROW + 1));
+    REFUSED(1, tealbobbin_fill(trace, ROWS * ROW, many, MAX_LEN + 1, list, 3, list, 3, table, ROW));
+    REFUSED(1, tealbobbin_fill(trace, ROWS * ROW, list, 3, many, MAX_LEN + 1, list, 3, table, ROW));
+    REFUSED(1, tealbobbin_fill(trace, ROWS * ROW, list, 3, list, 3, many, MAX_LEN + 1, table, ROW));
+    REFUSED(3, tealbobbin_fill(trace, ROWS * ROW, list, 3, NULL, 0, NULL, 0, table, (ROWS - 1) * ROW));
+    REFUSED(3, tealbobbin_fill(trace, ROWS * ROW, list, 3, NULL, 0, NULL, 0, many, (MAX_LEN + 1) * ROW));
+    REFUSED(2, tealbobbin_fill(trace, ROWS * ROW, list, 2, NULL, 0, NULL, 0, table, ROWS * ROW));
+    REFUSED(2, tealbobbin_fill(trace, ROWS * ROW, NULL, 0, list, 2, NULL, 0, table, ROWS * ROW));
+    REFUSED(2, tealbobbin_fill(trace, ROWS * ROW, NULL, 0, NULL, 0, list, 2, table, ROWS * ROW));
+    REFUSED(2, tealbobbin_fill(NULL, 0, list, 1, NULL, 0, NULL, 0, table, ROW));
+    for (size_t i = 0; i < ROWS * ROW; i++) {
+        trace[i] = P;
+        REFUSED(2, tealbobbin_fill(trace, ROWS * ROW, NULL, 0, list + 1, 1, NULL, 0, table, ROWS * ROW));
+        trace[i] = i + 100;
+    }
+    REFUSED(4, tealbobbin_fill(trace, ROWS * ROW, list + 1, 2, NULL, 0, NULL, 0, table, (ROWS + 1) * ROW));
+    REFUSED(4, tealbobbin_fill(trace, ROWS * ROW, NULL, 0, list + 1, 2, NULL, 0, table, (ROWS + 1) * ROW));
+    REFUSED(4, tealbobbin_fill(trace, ROWS * ROW, NULL, 0, NULL, 0, list + 1, 2, table, (ROWS + 1) * ROW));
+    REFUSED(4, tealbobbin_fill(NULL, 0, list + 1, 1, NULL, 0, NULL, 0, table, ROW));
+
+    uint64_t *rows = lend_zeros(32 * ROW), *filled = lend_zeros(32 * ROW), *difference = lend_zeros(1);
+    *difference = 31;
+    rows[31 * ROW + MULTIPLICITY] = 1;
+    DONE(tealbobbin_fill(rows, 32 * ROW, difference, 1, NULL, 0, NULL, 0, filled, 32 * ROW));
+    HOLDS_WORDS(filled, rows, 32 * ROW);
+    *difference = 32;
+    REFUSED(4, tealbobbin_fill(rows, 32 * ROW, difference, 1, NULL, 0, NULL, 0, filled, 32 * ROW));
+}
+
+/* Padding that copies row `from` of `due`, with row 1 raised by its number of rows. */
+static void pad_due(uint64_t *due, size_t rows, size_t from)
+{
+    for (size_t r = from + 1; r < rows; r++) {
+        copy(due + r * ROW, due + from * ROW, ROW);
+        due[r * ROW + CLK] = r;
+        due[r * ROW + TEALBOBBIN_MAIN_IS_PADDING] = 1;
+        due[r * ROW + MULTIPLICITY] = 0;
+    }
+    due[ROW + MULTIPLICITY] = plus(due[ROW + MULTIPLICITY], rows - from - 1);
+}
+
+static void pad(void)
+{
+    enum { ROWS = 4 };
+    uint64_t due[ROWS * ROW];
+    for (size_t table_len = 1; table_len <= ROWS; table_len++) {
+        uint64_t *table = lend(ROWS * ROW + 1);
+        for (size_t i = 0; i < table_len * ROW; i++)
+            table[i] = i + 100;
+        if (table_len > 1)
+            table[ROW + MULTIPLICITY] = P - 1;
+        copy(due, table, COUNT(due));
+        pad_due(due, ROWS, table_len - 1);
+        DONE(tealbobbin_pad(table, ROWS * ROW, table_len));
+        HOLDS_WORDS(table, due, COUNT(due));
+    }
+
+    uint64_t *table = lend(ROWS * ROW), *many = lend_many((MAX_LEN + 1) * ROW);
+    REFUSED(1, tealbobbin_pad(table, ROWS * ROW - 1, 0));
+    REFUSED(1, tealbobbin_pad(table, ROW + 1, 0));
+    REFUSED(3, tealbobbin_pad(NULL, 0, 1));
+    REFUSED(3, tealbobbin_pad(table, ROW, 1));
+    REFUSED(3, tealbobbin_pad(table, ROWS * ROW, 0));
+    REFUSED(3, tealbobbin_pad(table, ROWS * ROW, ROWS + 1));
+    REFUSED(3, tealbobbin_pad(table, ROWS * ROW, SIZE_MAX));
+    REFUSED(3, tealbobbin_pad(many, (MAX_LEN + 1) * ROW, 1));
+    for (size_t i = 0; i < 2 * ROW; i++)
+        table[i] = 0;
+    for (size_t i = 0; i < 2 * ROW; i++) {
+        table[i] = P;
+        REFUSED(2, tealbobbin_pad(table, ROWS * ROW, 2));
+        table[i] = 0;
+    }
+}
+
+/* Extension of a table of two rows, under challenges that are all one word. */
+
+enum { RECORD = TEALBOBBIN_RECORD_WORDS, MAIN = 2 * ROW, AUX = 2 * TEALBOBBIN_AUX_WORDS, WORK = 2 * TEALBOBBIN_WORK_WORDS };
+
+static uint64_t *lend_record(uint64_t word)
+{
+    uint64_t *record = lend_zeros(RECORD + 1);
+    for (size_t i = 0; i < RECORD; i += ELEMENT)
+        record[i] = word;
+    return record;
+}
+
+static void extend(void)
+{
+    uint64_t *table = lend_zeros(MAIN + 1), *record = lend_record(2), *aux = lend(AUX + 1), *work = lend(WORK + 1);
+
+    /* a row of zeros, and the padding row that follows it */
+    static const uint64_t cells[] = {1, 1, HALF, 1, 1, 2, 1, 1, 1, 0, 0, 1, 1, HALF, 1, 1, 0, 1, 1, 1, 0, 1}, zeros[WORK];
+    uint64_t due[AUX];
+    for (size_t i = 0; i < AUX; i++)
+        due[i] = i % ELEMENT ? 0 : cells[i / ELEMENT];
+    table[ROW + CLK] = table[ROW + TEALBOBBIN_MAIN_IS_PADDING] = table[ROW + MULTIPLICITY] = 1;
+    for (size_t c = 0; c < COUNT(chunks); c++) {
+        make_stale(aux, AUX);
+        make_stale(work, WORK);
+        DONE(tealbobbin_extend(table, MAIN, record, RECORD, chunks[c], aux, AUX, work, WORK));
+        HOLDS_WORDS(aux, due, AUX);
+        HOLDS_WORDS(work, zeros, WORK);
+        KEPT(table);
+        KEPT(record);
+    }
+
+    /* read_io 2, then write_io 2, with the words 5 and 7 */
+    uint64_t *ten = lend_record(10), *io = lend_zeros(MAIN);
+    const uint64_t *last = aux + AUX / 2;
+    io[CI] = 73;
+    io[NIA] = 2;
+    io[ROW + ST0] = 5;
+    io[ROW + ST1] = 7;
+    DONE(tealbobbin_extend(io, MAIN, ten, RECORD, 4, aux, AUX, work, WORK));
+    TRUE(last[ELEMENT * TEALBOBBIN_AUX_INPUT_TABLE_EVAL_ARG] == 175);
+    TRUE(last[ELEMENT * TEALBOBBIN_AUX_OUTPUT_TABLE_EVAL_ARG] == 1);
+    io[CI] = 19;
+    io[ST0] = 5;
+    io[ST1] = 7;
+    DONE(tealbobbin_extend(io, MAIN, ten, RECORD, 4, aux, AUX, work, WORK));
+    TRUE(last[ELEMENT * TEALBOBBIN_AUX_INPUT_TABLE_EVAL_ARG] == 1);
+    TRUE(last[ELEMENT * TEALBOBBIN_AUX_OUTPUT_TABLE_EVAL_ARG] == 157);
+
+    make_stale(aux, AUX);
+    make_stale(work, WORK);
+    uint64_t *stale = lend(MAIN + 1);
+    REFUSED(1, tealbobbin_extend(stale, MAIN - 1, record, RECORD, 0, aux, AUX, work, WORK));
+    REFUSED(1, tealbobbin_extend(stale, MAIN + 1, record, RECORD, 0, aux, AUX, work, WORK));
+    REFUSED(1, tealbobbin_extend(stale, ROW, record, RECORD, 0, aux, AUX, work, WORK));
+    REFUSED(1, tealbobbin_extend(stale, MAIN, record, RECORD - 1, 0, aux, AUX, work, WORK));
+    REFUSED(1, tealbobbin_extend(stale, MAIN, record, RECORD + 1, 0, aux, AUX, work, WORK));
+    REFUSED(1, tealbobbin_extend(stale, MAIN, record, RECORD, 0, aux, AUX - 1, work, WORK));
+    REFUSED(1, tealbobbin_extend(stale, MAIN, record, RECORD, 0, aux, AUX + 1, work, WORK));
+    REFUSED(1, tealbobbin_extend(stale, MAIN, record, RECORD, 0, aux, AUX, work, WORK - 1));
+    REFUSED(1, tealbobbin_extend(stale, MAIN, record, RECORD, 0, aux, AUX, work, WORK + 1));
+    REFUSED(1, tealbobbin_extend(NULL, 0, record, RECORD - 1, 0, NULL, 0, NULL, 0));
+
+    const size_t rows = MAX_LEN + 1;
+    uint64_t *long_main = lend_many(rows * ROW), *long_aux = lend_many(rows * AUX / 2), *long_work = lend_many(rows * WORK / 2);
+    REFUSED(3, tealbobbin_extend(NULL, 0, record, RECORD, 0, NULL, 0, NULL, 0));
+    REFUSED(3, tealbobbin_extend(long_main, rows * ROW, record, RECORD, 0, long_aux, rows * AUX / 2, long_work, rows * WORK / 2));
+    REFUSED(5, tealbobbin_extend(stale, MAIN, record, RECORD, 0, aux, AUX, work, WORK));
+
+    /* a denominator is zero where CI is 1, and where CLK is 2 with a multiplicity; split enters its words and 4 */
+    table[CI] = 1;
+    for (size_t i = 0; i < MAIN + RECORD; i++) {
+        uint64_t *word = i < MAIN ? table + i : record + i - MAIN;
+        uint64_t kept = *word;
+        *word = P;
+        REFUSED(2, tealbobbin_extend(table, MAIN, record, RECORD, 4, aux, AUX, work, WORK));
+        *word = kept;
+    }
+    REFUSED(6, tealbobbin_extend(table, MAIN, record, RECORD, 4, aux, AUX, work, WORK));
+    table[CI] = 0;
+    table[ROW + CLK] = 2;
+    REFUSED(6, tealbobbin_extend(table, MAIN, record, RECORD, 4, aux, AUX, work, WORK));
+    table[ROW + MULTIPLICITY] = 0;
+    DONE(tealbobbin_extend(table, MAIN, record, RECORD, 4, aux, AUX, work, WORK));
+    table[CI] = 4;
+    table[ROW + ST0] = P - 3;
+    REFUSED(6, tealbobbin_extend(table, MAIN, record, RECORD, 4, aux, AUX, work, WORK));
+}
+
+/* Batches. */
+
+enum { END, ROWS_TO_COME, TRACE_ROW, OP_STACK, RAM, JUMP_STACK, SAMPLED, DIGEST, INPUT, OUTPUT, UNKNOWN };
+
+static uint8_t bytes[TEALBOBBIN_BATCH_MAX_BYTES + 1];
+static size_t byte_count;
+
+static void put(uint64_t number, size_t width)
+{
+    for (size_t i = 0; i < width; i++)
+        bytes[byte_count++] = (uint8_t)(number >> 8 * i);
+}
+
+/* A command and `words` words of operand, counting up from the first. */
+static void put_command(uint8_t command, size_t words, uint64_t first)
+{
+    put(command, 1);
+    for (size_t i = 0; i < words; i++)
+        put(first + i, 8);
+}
+
+static void put_rows_to_come(uint32_t rows)
+{
+    put(ROWS_TO_COME, 1);
+    put(rows, 4);
+}
+
+/* A batch of one row that lacks only its end. */
+static void begin(void)
+{
+    byte_count = 0;
+    put_rows_to_come(1);
+    put_command(DIGEST, TEALBOBBIN_DIGEST_WORDS, 50);
+    put_command(SAMPLED, TEALBOBBIN_SAMPLED_WORDS, 2000);
+    put_command(TRACE_ROW, ROW, 100);
+}
+
+/* The slices that are lent to open, each with a word more than its length, and the lengths that are said. */
+enum { L_TRACE, L_OP_STACK, L_RAM, L_JUMP_STACK, L_SAMPLED, L_DIGEST, L_INPUT, L_OUTPUT, L_COUNTS, LENT };
+static const size_t lengths[LENT] = {
+    TEALBOBBIN_BATCH_MAX_TRACE_WORDS, TEALBOBBIN_BATCH_MAX_DIFFERENCES, TEALBOBBIN_BATCH_MAX_DIFFERENCES,
+    TEALBOBBIN_BATCH_MAX_DIFFERENCES, TEALBOBBIN_SAMPLED_WORDS,         TEALBOBBIN_DIGEST_WORDS,
+    TEALBOBBIN_BATCH_MAX_INPUT,       TEALBOBBIN_BATCH_MAX_OUTPUT,      TEALBOBBIN_COUNTS,
+};
+static struct {
+    uint64_t *words;
+    size_t count;
+} lent[LENT];
+
+static void lend_all(void)
+{
+    for (size_t s = 0; s < LENT; s++) {
+        lent[s].words = lend(lengths[s] + 1);
+        lent[s].count = lengths[s];
+    }
+}
+
+static uint32_t open_bytes(void)
+{
+    uint8_t *batch = room(byte_count);
+    memcpy(batch, bytes, byte_count);
+    uint32_t answer = tealbobbin_open(
+        batch, byte_count, lent[0].words, lent[0].count, lent[1].words, lent[1].count, lent[2].words, lent[2].count,
+        lent[3].words, lent[3].count, lent[4].words, lent[4].count, lent[5].words, lent[5].count, lent[6].words, lent[6].count,
+        lent[7].words, lent[7].count, lent[8].words, lent[8].count);
+    TRUE(memcmp(batch, bytes, byte_count) == 0);
+    free(batch);
+    return answer;
+}
+
+/* The slice begins with `count` words, counting up from `first`, and is otherwise as before. */
+static void counts_up(int line, size_t slice, uint64_t first, size_t count)
+{
+    uint64_t due[TEALBOBBIN_BATCH_MAX_TRACE_WORDS];
+    for (size_t i = 0; i < count; i++)
+        due[i] = first + i;
+    char name[32];
+    snprintf(name, sizeof(name), "slice %zu of open", slice);
+    holds(line, name, lent[slice].words, due, count);
+}
+#define COUNTS_UP(slice, first, count) counts_up(__LINE__, slice, first, count)
+
+static const struct {
+    uint8_t command;
+    size_t slice, most;
+} lists[] = {
+    {OP_STACK, L_OP_STACK, TEALBOBBIN_BATCH_MAX_DIFFERENCES},
+    {RAM, L_RAM, TEALBOBBIN_BATCH_MAX_DIFFERENCES},
+    {JUMP_STACK, L_JUMP_STACK, TEALBOBBIN_BATCH_MAX_DIFFERENCES},
+    {INPUT, L_INPUT, TEALBOBBIN_BATCH_MAX_INPUT},
+    {OUTPUT, L_OUTPUT, TEALBOBBIN_BATCH_MAX_OUTPUT},
+};
+
+static void open_one_row(void)
+{
+    begin();
+    put_command(END, 0, 0);
+    DONE(open_bytes());
+    COUNTS_UP(L_TRACE, 100, ROW);
+    COUNTS_UP(L_SAMPLED, 2000, TEALBOBBIN_SAMPLED_WORDS);
+    COUNTS_UP(L_DIGEST, 50, TEALBOBBIN_DIGEST_WORDS);
+    for (size_t l = 0; l < COUNT(lists); l++)
+        COUNTS_UP(lists[l].slice, 0, 0);
+    HOLDS(lent[L_COUNTS].words, 1, 0, 0, 0, 0, 0);
+}
+
+static void open_mixed(void)
+{
+    byte_count = 0;
+    put_rows_to_come(2);
+    put_command(INPUT, 1, 400);
+    put_command(TRACE_ROW, ROW, 100);
+    put_command(JUMP_STACK, 1, 0);
+    put_command(RAM, 1, 10);
+    put_command(SAMPLED, TEALBOBBIN_SAMPLED_WORDS, 2001);
+    put_command(RAM, 1, 11);
+    put_command(OUTPUT, 1, 500);
+    put_command(INPUT, 1, 401);
+    put_command(OP_STACK, 1, P - 1);
+    put_command(TRACE_ROW, ROW, 100 + ROW);
+    put_command(DIGEST, TEALBOBBIN_DIGEST_WORDS, 51);
+    put_command(RAM, 1, 12);
+    put_command(INPUT, 1, 402);
+    put_command(INPUT, 1, 403);
+    put_command(END, 0, 0);
+    DONE(open_bytes());
+    COUNTS_UP(L_TRACE, 100, 2 * ROW);
+    COUNTS_UP(L_OP_STACK, P - 1, 1);
+    COUNTS_UP(L_RAM, 10, 3);
+    COUNTS_UP(L_JUMP_STACK, 0, 1);
+    COUNTS_UP(L_SAMPLED, 2001, TEALBOBBIN_SAMPLED_WORDS);
+    COUNTS_UP(L_DIGEST, 51, TEALBOBBIN_DIGEST_WORDS);
+    COUNTS_UP(L_INPUT, 400, 4);
+    COUNTS_UP(L_OUTPUT, 500, 1);
+    const uint64_t *counts = lent[L_COUNTS].words;
+    TRUE(counts[TEALBOBBIN_COUNT_ROWS] == 2);
+    TRUE(counts[TEALBOBBIN_COUNT_OP_STACK] == 1);
+    TRUE(counts[TEALBOBBIN_COUNT_RAM] == 3);
+    TRUE(counts[TEALBOBBIN_COUNT_JUMP_STACK] == 1);
+    TRUE(counts[TEALBOBBIN_COUNT_INPUT] == 4);
+    TRUE(counts[TEALBOBBIN_COUNT_OUTPUT] == 1);
+}
+
+static void open_largest(void)
+{
+    byte_count = 0;
+    put_rows_to_come(TEALBOBBIN_BATCH_MAX_ROWS);
+    put_command(DIGEST, TEALBOBBIN_DIGEST_WORDS, 52);
+    put_command(SAMPLED, TEALBOBBIN_SAMPLED_WORDS, 2002);
+    for (size_t r = 0; r < TEALBOBBIN_BATCH_MAX_ROWS; r++)
+        put_command(TRACE_ROW, ROW, 3000 + r * ROW);
+    for (size_t l = 0; l < COUNT(lists); l++)
+        for (size_t i = 0; i < lists[l].most; i++)
+            put_command(lists[l].command, 1, 1000 * l + i);
+    put_command(END, 0, 0);
+    TRUE(byte_count == 16088);
+    DONE(open_bytes());
+    COUNTS_UP(L_TRACE, 3000, TEALBOBBIN_BATCH_MAX_TRACE_WORDS);
+    COUNTS_UP(L_SAMPLED, 2002, TEALBOBBIN_SAMPLED_WORDS);
+    COUNTS_UP(L_DIGEST, 52, TEALBOBBIN_DIGEST_WORDS);
+    for (size_t l = 0; l < COUNT(lists); l++)
+        COUNTS_UP(lists[l].slice, 1000 * l, lists[l].most);
+    HOLDS(lent[L_COUNTS].words, 32, 128, 128, 128, 64, 64);
+}
+
+/* Before all else. */
+static void open_refuses_1(void)
+{
+    byte_count = 0;
+    for (size_t s = 0; s < LENT; s++) {
+        lent[s].count = lengths[s] - 1;
+        REFUSED(1, open_bytes());
+        lent[s].count = lengths[s] + 1;
+        REFUSED(1, open_bytes());
+        lent[s].count = lengths[s];
+    }
+    memset(bytes, 0, sizeof(bytes));
+    byte_count = TEALBOBBIN_BATCH_MAX_BYTES + 1;
+    REFUSED(1, open_bytes());
+    byte_count = TEALBOBBIN_BATCH_MAX_BYTES;
+    REFUSED(9, open_bytes());
+}
+
+/* Before 9. */
+static void open_refuses_7(void)
+{
+    byte_count = 0;
+    put(UNKNOWN, 1);
+    REFUSED(7, open_bytes());
+    begin();
+    put(255, 1);
+    REFUSED(7, open_bytes());
+}
+
+/* Before 9 and 3. */
+static void open_refuses_8(void)
+{
+    byte_count = 0;
+    REFUSED(8, open_bytes());
+    begin();
+    REFUSED(8, open_bytes());
+    byte_count--;
+    REFUSED(8, open_bytes());
+    byte_count = 0;
+    put_command(TRACE_ROW, ROW - 1, P);
+    REFUSED(8, open_bytes());
+    byte_count = 0;
+    put(ROWS_TO_COME, 1);
+    put(0, 3);
+    REFUSED(8, open_bytes());
+}
+
+/* Before 3 and 2. */
+static void open_refuses_9(void)
+{
+    byte_count = 0;
+    put_command(TRACE_ROW, ROW, P);
+    REFUSED(9, open_bytes());
+    begin();
+    put_rows_to_come(0);
+    REFUSED(9, open_bytes());
+    begin();
+    put_command(TRACE_ROW, ROW, P);
+    REFUSED(9, open_bytes());
+    begin();
+    put_command(DIGEST, TEALBOBBIN_DIGEST_WORDS, P);
+    REFUSED(9, open_bytes());
+    begin();
+    put_command(SAMPLED, TEALBOBBIN_SAMPLED_WORDS, P);
+    REFUSED(9, open_bytes());
+    for (size_t l = 0; l < COUNT(lists); l++) {
+        begin();
+        for (size_t i = 0; i < lists[l].most; i++)
+            put_command(lists[l].command, 1, i);
+        put_command(lists[l].command, 1, P);
+        REFUSED(9, open_bytes());
+    }
+    for (int missing = 0; missing < 3; missing++) {
+        byte_count = 0;
+        put_rows_to_come(1);
+        if (missing != 0)
+            put_command(DIGEST, TEALBOBBIN_DIGEST_WORDS, 0);
+        if (missing != 1)
+            put_command(SAMPLED, TEALBOBBIN_SAMPLED_WORDS, 0);
+        if (missing != 2)
+            put_command(TRACE_ROW, ROW, 0);
+        put_command(END, 0, 0);
+        REFUSED(9, open_bytes());
+    }
+    begin();
+    put_command(END, 0, 0);
+    put(UNKNOWN, 1);
+    REFUSED(9, open_bytes());
+}
+
+static void open_refuses_3(void)
+{
+    static const uint32_t rows[] = {0, TEALBOBBIN_BATCH_MAX_ROWS + 1, 256, UINT32_MAX};
+    for (size_t i = 0; i < COUNT(rows); i++) {
+        byte_count = 0;
+        put_rows_to_come(rows[i]);
+        put(UNKNOWN, 1);
+        REFUSED(3, open_bytes());
+    }
+}
+
+/* The last word of each command is p, and the others are below. */
+static void open_refuses_2(void)
+{
+    static const struct {
+        uint8_t command;
+        size_t words;
+    } operands[] = {{DIGEST, TEALBOBBIN_DIGEST_WORDS}, {SAMPLED, TEALBOBBIN_SAMPLED_WORDS}, {TRACE_ROW, ROW}};
+    for (size_t i = 0; i < COUNT(operands); i++) {
+        byte_count = 0;
+        put_rows_to_come(1);
+        put_command(operands[i].command, operands[i].words, P - operands[i].words + 1);
+        put(UNKNOWN, 1);
+        REFUSED(2, open_bytes());
+    }
+    for (size_t l = 0; l < COUNT(lists); l++) {
+        begin();
+        put_command(lists[l].command, 1, P);
+        put(UNKNOWN, 1);
+        REFUSED(2, open_bytes());
+    }
+}
+
+static void open(void)
+{
+    lend_all();
+    open_one_row();
+    open_mixed();
+    open_largest();
+    open_refuses_1();
+    open_refuses_7();
+    open_refuses_8();
+    open_refuses_9();
+    open_refuses_3();
+    open_refuses_2();
+}
+
+static void constants(void)
+{
+    char version[32];
+    snprintf(version, sizeof(version), "%d.%d.%d", TEALBOBBIN_VERSION_MAJOR, TEALBOBBIN_VERSION_MINOR, TEALBOBBIN_VERSION_PATCH);
+    TRUE(strcmp(version, TEALBOBBIN_VERSION) == 0);
+    TRUE(P == UINT64_MAX - UINT32_MAX + 1);
+    TRUE(MAP == 2 * ELEMENT);
+    TRUE(TEALBOBBIN_RECORD_WORDS == TEALBOBBIN_CHALLENGE_COUNT * ELEMENT);
+    TRUE(TEALBOBBIN_SAMPLED_WORDS == TEALBOBBIN_SAMPLE_COUNT * ELEMENT);
+    TRUE(TEALBOBBIN_AUX_WORDS == TEALBOBBIN_AUX_WIDTH * ELEMENT);
+    TRUE(TEALBOBBIN_BATCH_MAX_TRACE_WORDS == TEALBOBBIN_BATCH_MAX_ROWS * ROW);
+}
+
+static const struct {
+    const char *name;
+    void (*run)(void);
+    unsigned refusals[16];
+} tests[] = {
+    {"base_add", base_add, {TEALBOBBIN_SLICE_LENGTH, TEALBOBBIN_WORD_NOT_BELOW_P}},
+    {"base_sub", base_sub, {TEALBOBBIN_SLICE_LENGTH, TEALBOBBIN_WORD_NOT_BELOW_P}},
+    {"base_mul", base_mul, {TEALBOBBIN_SLICE_LENGTH, TEALBOBBIN_WORD_NOT_BELOW_P}},
+    {"base_inverse", base_inverse, {TEALBOBBIN_SLICE_LENGTH, TEALBOBBIN_WORD_NOT_BELOW_P, TEALBOBBIN_ZERO_DENOMINATOR}},
+    {"element_add", element_add, {TEALBOBBIN_SLICE_LENGTH, TEALBOBBIN_WORD_NOT_BELOW_P}},
+    {"element_sub", element_sub, {TEALBOBBIN_SLICE_LENGTH, TEALBOBBIN_WORD_NOT_BELOW_P}},
+    {"element_mul", element_mul, {TEALBOBBIN_SLICE_LENGTH, TEALBOBBIN_WORD_NOT_BELOW_P}},
+    {"element_scale", element_scale, {TEALBOBBIN_SLICE_LENGTH, TEALBOBBIN_WORD_NOT_BELOW_P}},
+    {"element_inverse", element_inverse, {TEALBOBBIN_SLICE_LENGTH, TEALBOBBIN_WORD_NOT_BELOW_P, TEALBOBBIN_ZERO_DENOMINATOR}},
+    {"decode", decode, {TEALBOBBIN_SLICE_LENGTH, TEALBOBBIN_WORD_NOT_BELOW_P}},
+    {"challenges", challenges, {TEALBOBBIN_SLICE_LENGTH, TEALBOBBIN_WORD_NOT_BELOW_P}},
+    {"scan_maps", scan_maps, {TEALBOBBIN_SLICE_LENGTH, TEALBOBBIN_CHUNK_LENGTH_ZERO, TEALBOBBIN_WORD_NOT_BELOW_P}},
+    {"scan_products", scan_products, {TEALBOBBIN_SLICE_LENGTH, TEALBOBBIN_CHUNK_LENGTH_ZERO, TEALBOBBIN_WORD_NOT_BELOW_P}},
+    {"scan_sums", scan_sums, {TEALBOBBIN_SLICE_LENGTH, TEALBOBBIN_CHUNK_LENGTH_ZERO, TEALBOBBIN_WORD_NOT_BELOW_P}},
+    {"fill", fill, {TEALBOBBIN_SLICE_LENGTH, TEALBOBBIN_ROW_COUNT, TEALBOBBIN_WORD_NOT_BELOW_P, TEALBOBBIN_DIFFERENCE_TOO_LARGE}},
+    {"pad", pad, {TEALBOBBIN_SLICE_LENGTH, TEALBOBBIN_ROW_COUNT, TEALBOBBIN_WORD_NOT_BELOW_P}},
+    {"extend", extend,
+     {TEALBOBBIN_SLICE_LENGTH, TEALBOBBIN_ROW_COUNT, TEALBOBBIN_CHUNK_LENGTH_ZERO,
+      TEALBOBBIN_WORD_NOT_BELOW_P, TEALBOBBIN_ZERO_DENOMINATOR}},
+    {"open", open,
+     {TEALBOBBIN_SLICE_LENGTH, TEALBOBBIN_UNKNOWN_COMMAND, TEALBOBBIN_BATCH_CUT_OFF,
+      TEALBOBBIN_COMMAND_OUT_OF_PLACE, TEALBOBBIN_ROW_COUNT, TEALBOBBIN_WORD_NOT_BELOW_P}},
+};
+
+int main(void)
+{
+    setvbuf(stdout, NULL, _IOLBF, BUFSIZ);
+    test = "constants";
+    constants();
+    for (size_t t = 0; t < COUNT(tests); t++) {
+        test = tests[t].name;
+        answers = 0;
+        tests[t].run();
+        give_back();
+        unsigned due = BIT(TEALBOBBIN_DONE);
+        for (const unsigned *refusal = tests[t].refusals; *refusal; refusal++)
+            due |= BIT(*refusal);
+        for (unsigned answer = 0; answer < 32; answer++)
+            if ((answers ^ due) & BIT(answer))
+                failed(__LINE__, "%u %s", answer, due & BIT(answer) ? "was never answered" : "is not in its line");
+        checks++;
+    }
+    printf("%lu checks, %lu failed\n", checks, failures);
+    return failures ? 1 : 0;
+}
