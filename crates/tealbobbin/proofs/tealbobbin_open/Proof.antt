@@ -5,8 +5,10 @@ use Prim.Native.Nat.{ℕ}
 use lib.ListN.{length}
 use borrow.Author.Tests.{eq-eqb, ne-eqb}
 use Rattle.batch.specs.Open.{openAnswer, openNumber, openSlice}
-use Rattle.tealbobbin_answers.specs.Open.{Slices, slices, openInto}
+use Rattle.batch_reader.specs.declared.OpenAnswer.{OpenAnswer}
+use Rattle.tealbobbin_answers.specs.Open.{Slices, slices, openInto, slicesBy, slicesAfter}
 use borrow.Author.Needs.{needs}
+use native.Mathlib.Omega.{arith}
 use Rattle.tealbobbin.proofs.tealbobbin_open.Statement.{statement}
 use Rattle.tealbobbin.proofs.tealbobbin_open.Tie as tie
 
@@ -16,6 +18,21 @@ six : (batch : List ℕ) (lent : Slices) → length (lent .counts) ≡ 6
     (length (lent .digest)) (length (lent .input)) (length (lent .output))
 unfolding openInto
 six batch lent h = rw (eq-eqb _ 6 h)
+
+-- The nine slices as one record.
+all : (batch : List ℕ) (lent : Slices) {answer : OpenAnswer} {trace op-stack ram jump-stack sampled digest input output counts : List ℕ}
+    → openInto batch lent ≡ answer
+    → trace ≡ slicesBy answer batch lent .trace
+    → op-stack ≡ slicesBy answer batch lent .op-stack
+    → ram ≡ slicesBy answer batch lent .ram
+    → jump-stack ≡ slicesBy answer batch lent .jump-stack
+    → sampled ≡ slicesBy answer batch lent .sampled
+    → digest ≡ slicesBy answer batch lent .digest
+    → input ≡ slicesBy answer batch lent .input
+    → output ≡ slicesBy answer batch lent .output
+    → counts ≡ slicesBy answer batch lent .counts
+    → slices trace op-stack ram jump-stack sampled digest input output counts ≡ slicesAfter batch lent
+all batch lent same t o r j s d i u k = rw (same, t, o, r, j, s, d, i, u, k)
 
 returns : tie.Need-returns
 unfolding openInto openSlice
@@ -28,31 +45,31 @@ put-counts-requires : tie.Need-put-counts-requires
 put-counts-requires c κs = search needs
 
 same-length : tie.Need-same-length
-same-length c = search needs
+same-length c = omega arith
 
 same-length-2 : tie.Need-same-length-2
-same-length-2 c = search needs
+same-length-2 c = omega arith
 
 same-length-3 : tie.Need-same-length-3
-same-length-3 c = search needs
+same-length-3 c = omega arith
 
 same-length-4 : tie.Need-same-length-4
-same-length-4 c = search needs
+same-length-4 c = omega arith
 
 same-length-5 : tie.Need-same-length-5
-same-length-5 c = search needs
+same-length-5 c = omega arith
 
 same-length-6 : tie.Need-same-length-6
-same-length-6 c = search needs
+same-length-6 c = omega arith
 
 same-length-7 : tie.Need-same-length-7
-same-length-7 c = search needs
+same-length-7 c = omega arith
 
 same-length-8 : tie.Need-same-length-8
-same-length-8 c = search needs
+same-length-8 c = omega arith
 
 same-length-9 : tie.Need-same-length-9
-same-length-9 c = search needs
+same-length-9 c = omega arith
 
 returns-2 : tie.Need-returns-2
 returns-2 c =
@@ -64,18 +81,17 @@ returns-2 c =
     let lent = slices (args .trace .now) (args .op-stack .now) (args .ram .now) (args .jump-stack .now) (args .sampled .now) (args .digest .now) (args .input .now) (args .output .now) (args .counts .now) in
     let same = six (args .batch .now) lent (tested .if1 .left) ∙ sym (o .0) in (
       put .0 ∙ ap openNumber (sym same),
-      rw (
-        same,
-        o .1 .0,
-        o .1 .1 .0,
-        o .1 .1 .1 .0,
-        o .1 .1 .1 .1 .0,
-        o .1 .1 .1 .1 .1 .0,
-        o .1 .1 .1 .1 .1 .1 .0,
-        o .1 .1 .1 .1 .1 .1 .1 .0,
-        o .1 .1 .1 .1 .1 .1 .1 .1,
-        put .1,
-      ),
+      all (args .batch .now) lent
+          same
+          (o .1 .0)
+          (o .1 .1 .0)
+          (o .1 .1 .1 .0)
+          (o .1 .1 .1 .1 .0)
+          (o .1 .1 .1 .1 .1 .0)
+          (o .1 .1 .1 .1 .1 .1 .0)
+          (o .1 .1 .1 .1 .1 .1 .1 .0)
+          (o .1 .1 .1 .1 .1 .1 .1 .1)
+          (put .1),
     )
 
 pub tealbobbin-open-spec : {M : Type 1} → statement M
