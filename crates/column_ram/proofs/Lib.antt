@@ -1,3 +1,2 @@
--- Laws of accesses.
-pub mod Run
+-- Laws of what instructions access.
 pub mod Accesses
