@@ -1,3 +1,2 @@
-// What a window of two rows does to the running values of the hash input, hash digest and sponge columns.
+// What a window of two rows does to the running values of the hash input and hash digest columns.
 pub mod unchecked;
-mod weights;

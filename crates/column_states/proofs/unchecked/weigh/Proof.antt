@@ -8,9 +8,9 @@ use Rattle.field.specs.Element.{sum}
 use Rattle.field.specs.Weighed.{weighedOf, Few}
 use Rattle.field.proofs.Totals.{more-few, few-in}
 use Rattle.column_entries.specs.Row.{weigh}
-use Rattle.column_hash.proofs.Weighing.{weigh-none-left, weigh-one-more}
-use Rattle.column_hash.proofs.weights.weigh.Statement.{statement}
-use Rattle.column_hash.proofs.weights.weigh.Tie as tie
+use Rattle.column_states.proofs.Weighing.{weigh-none-left, weigh-one-more}
+use Rattle.column_states.proofs.unchecked.weigh.Statement.{statement}
+use Rattle.column_states.proofs.unchecked.weigh.Tie as tie
 
 abbrev Inv-loop : tie.InvT-loop
 Inv-loop words from weights behind i₀ sums i =

@@ -3,8 +3,8 @@ use borrow.Author.Needs.{needs}
 use mathlib.Core.Path.{_∙_}
 use Rattle.field.proofs.Laws.{sum-zero}
 use Rattle.column_entries.proofs.Weigh.{weigh-canonical}
-use Rattle.column_hash.proofs.weights.weigh_state.Statement.{statement}
-use Rattle.column_hash.proofs.weights.weigh_state.Tie as tie
+use Rattle.column_states.proofs.unchecked.weigh_state.Statement.{statement}
+use Rattle.column_states.proofs.unchecked.weigh_state.Tie as tie
 
 weigh-requires : tie.Need-weigh-requires
 weigh-requires c κs = search needs

@@ -5,9 +5,9 @@ use lib.Seq.{drop-drop}
 use Rattle.field.specs.Element.{sum}
 use Rattle.field.proofs.Laws.{sum-zero}
 use Rattle.column_entries.proofs.Weigh.{weigh-canonical}
-use Rattle.column_hash.proofs.Weighing.{weigh-append}
-use Rattle.column_hash.proofs.weights.weigh_both.Statement.{statement}
-use Rattle.column_hash.proofs.weights.weigh_both.Tie as tie
+use Rattle.column_states.proofs.Weighing.{weigh-append}
+use Rattle.column_states.proofs.unchecked.weigh_both.Statement.{statement}
+use Rattle.column_states.proofs.unchecked.weigh_both.Tie as tie
 
 add-weigh : tie.Need-add-weigh
 add-weigh c = search needs

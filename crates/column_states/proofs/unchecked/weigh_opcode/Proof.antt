@@ -2,8 +2,8 @@
 use borrow.Author.Needs.{needs}
 use mathlib.Core.Path.{_∙_}
 use Rattle.field.proofs.Totals.{more-few}
-use Rattle.column_hash.proofs.weights.weigh_opcode.Statement.{statement}
-use Rattle.column_hash.proofs.weights.weigh_opcode.Tie as tie
+use Rattle.column_states.proofs.unchecked.weigh_opcode.Statement.{statement}
+use Rattle.column_states.proofs.unchecked.weigh_opcode.Tie as tie
 
 opcode-requires : tie.Need-opcode-requires
 opcode-requires c κs = search needs
