@@ -1,4 +1,4 @@
-// The running values of the eleven columns, and one row's step of them.
+// The running values of the eleven columns: before any row, and in a row of the auxiliary table.
 use field::XFieldElement;
 
 pub mod unchecked;

@@ -1,0 +1,2 @@
+-- The cells of the next row.
+pub mod Next
