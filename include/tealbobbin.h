@@ -24,9 +24,9 @@ extern "C" {
 
 /* The Rust crate's Cargo.toml has the same version. */
 #define TEALBOBBIN_VERSION_MAJOR 0
-#define TEALBOBBIN_VERSION_MINOR 1
+#define TEALBOBBIN_VERSION_MINOR 2
 #define TEALBOBBIN_VERSION_PATCH 0
-#define TEALBOBBIN_VERSION "0.1.0"
+#define TEALBOBBIN_VERSION "0.2.0"
 
 enum tealbobbin_refusal {
     TEALBOBBIN_DONE = 0,                 /* none */
@@ -38,7 +38,9 @@ enum tealbobbin_refusal {
     TEALBOBBIN_ZERO_DENOMINATOR = 6,     /* a denominator is zero, or what is to be inverted */
     TEALBOBBIN_UNKNOWN_COMMAND = 7,      /* a byte of a batch is no command */
     TEALBOBBIN_BATCH_CUT_OFF = 8,        /* a batch ends too early */
-    TEALBOBBIN_COMMAND_OUT_OF_PLACE = 9  /* a batch has a command out of place or too often, or lacks one */
+    TEALBOBBIN_COMMAND_OUT_OF_PLACE = 9, /* a batch has a command out of place or too often, or lacks one */
+    TEALBOBBIN_COMMAND_OUT_OF_ORDER = 10 /* a batch has a command behind one that belongs after it, or a difference below the one
+                                            before it */
 };
 
 /* p = 2^64 - 2^32 + 1 */
@@ -124,7 +126,8 @@ enum tealbobbin_aux_column {
 
 /*
  * The most bytes of a batch and the most that it brings: trace rows, words of these rows, differences in a list, input words,
- * output words. The last four are also the lengths of the slices that tealbobbin_open fills.
+ * output words. The last four are also the lengths of the slices that tealbobbin_open fills, and the most that tealbobbin_write
+ * takes.
  */
 #define TEALBOBBIN_BATCH_MAX_BYTES 16384
 #define TEALBOBBIN_BATCH_MAX_ROWS 32
@@ -132,6 +135,9 @@ enum tealbobbin_aux_column {
 #define TEALBOBBIN_BATCH_MAX_DIFFERENCES 128
 #define TEALBOBBIN_BATCH_MAX_INPUT 64
 #define TEALBOBBIN_BATCH_MAX_OUTPUT 64
+
+/* The bytes of a batch with this many trace rows, and this many differences, input and output words together. */
+#define TEALBOBBIN_BATCH_BYTES(rows, words) (1464 + 313 * (size_t)(rows) + 9 * (size_t)(words))
 
 /* Where each number stands in the counts of an opened batch, and how many there are. */
 enum tealbobbin_count {
@@ -269,13 +275,14 @@ uint32_t tealbobbin_extend(const uint64_t *main, size_t main_count, const uint64
  * Opens a batch of at most 16384 bytes; docs/BATCH.md has the format. Into the slices go, from their start on, `trace` (1248
  * words): its rows; `op_stack`, `ram`, `jump_stack` (128 each): the clock jump differences; `sampled` (177) and `digest` (5), as
  * tealbobbin_challenges takes them; `input` and `output` (64 each); `counts` (6): how many of each, by enum tealbobbin_count.
- * Words past the counts stay.
+ * Words past the counts stay. Batches that open to equal contents have equal bytes.
  *
  * 1: `batch` has more bytes, or another slice has another length.
  * Then for each command, from left to right:
  * 7: the byte is no command.
  * 8: the batch ends inside the operand; also, where a command should stand, without an end command.
  * 9: the command is out of place or too often; at the end command, rows, challenges or digest are missing or bytes follow.
+ * 10: the command belongs in front of one before it, or its difference is below the one before it in the same list.
  * 3: the number of rows is 0 or above 32.
  * 2: a word of the operand is not below p.
  */
@@ -284,6 +291,23 @@ uint32_t tealbobbin_open(const uint8_t *batch, size_t batch_count, uint64_t *tra
                          uint64_t *jump_stack, size_t jump_stack_count, uint64_t *sampled, size_t sampled_count,
                          uint64_t *digest, size_t digest_count, uint64_t *input, size_t input_count,
                          uint64_t *output, size_t output_count, uint64_t *counts, size_t counts_count);
+
+/*
+ * Writes the one batch with these contents into `batch`: `trace`, 1 to 32 rows of 39 words; `op_stack`, `ram`, `jump_stack`, the
+ * clock jump differences in any order, which it sorts; `sampled` and `digest`, as tealbobbin_challenges takes them; `input` and
+ * `output` in their order. Each slice is as long as what it brings, and the lists, `input` and `output` may be empty. A difference
+ * need not be below the number of rows.
+ *
+ * 1: `trace` is not whole rows, a list has more than 128 words, `input` or `output` more than 64, `sampled` not 177 or `digest` not
+ *    5, or `batch` not TEALBOBBIN_BATCH_BYTES bytes, with the rows of `trace` and the words of the lists, `input` and `output`.
+ * 3: `trace` has no row or more than 32.
+ * 2: a word is not below p.
+ */
+uint32_t tealbobbin_write(const uint64_t *trace, size_t trace_count, const uint64_t *op_stack, size_t op_stack_count,
+                          const uint64_t *ram, size_t ram_count, const uint64_t *jump_stack, size_t jump_stack_count,
+                          const uint64_t *sampled, size_t sampled_count, const uint64_t *digest, size_t digest_count,
+                          const uint64_t *input, size_t input_count, const uint64_t *output, size_t output_count,
+                          uint8_t *batch, size_t batch_count);
 
 #ifdef __cplusplus
 }

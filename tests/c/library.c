@@ -545,14 +545,31 @@ static void put_rows_to_come(uint32_t rows)
     put(rows, 4);
 }
 
-/* A batch of one row that lacks only its end. */
-static void begin(void)
+/* The commands between the first and the end, in their order, each with the words of its operand. */
+static const struct {
+    uint8_t command;
+    size_t words;
+} order[] = {
+    {DIGEST, TEALBOBBIN_DIGEST_WORDS}, {INPUT, 1},    {OUTPUT, 1}, {SAMPLED, TEALBOBBIN_SAMPLED_WORDS},
+    {TRACE_ROW, ROW},                  {OP_STACK, 1}, {RAM, 1},    {JUMP_STACK, 1},
+};
+
+/* What a batch of one row needs, up to where this command belongs. */
+static void begin_for(uint8_t command)
 {
     byte_count = 0;
     put_rows_to_come(1);
     put_command(DIGEST, TEALBOBBIN_DIGEST_WORDS, 50);
+    if (command == INPUT || command == OUTPUT)
+        return;
     put_command(SAMPLED, TEALBOBBIN_SAMPLED_WORDS, 2000);
     put_command(TRACE_ROW, ROW, 100);
+}
+
+/* A batch of one row that lacks only its end. */
+static void begin(void)
+{
+    begin_for(END);
 }
 
 /* The slices that are lent to open, each with a word more than its length, and the lengths that are said. */
@@ -604,12 +621,17 @@ static const struct {
     uint8_t command;
     size_t slice, most;
 } lists[] = {
+    {INPUT, L_INPUT, TEALBOBBIN_BATCH_MAX_INPUT},
+    {OUTPUT, L_OUTPUT, TEALBOBBIN_BATCH_MAX_OUTPUT},
     {OP_STACK, L_OP_STACK, TEALBOBBIN_BATCH_MAX_DIFFERENCES},
     {RAM, L_RAM, TEALBOBBIN_BATCH_MAX_DIFFERENCES},
     {JUMP_STACK, L_JUMP_STACK, TEALBOBBIN_BATCH_MAX_DIFFERENCES},
-    {INPUT, L_INPUT, TEALBOBBIN_BATCH_MAX_INPUT},
-    {OUTPUT, L_OUTPUT, TEALBOBBIN_BATCH_MAX_OUTPUT},
 };
+
+static int is_difference(uint8_t command)
+{
+    return command == OP_STACK || command == RAM || command == JUMP_STACK;
+}
 
 static void open_one_row(void)
 {
@@ -624,24 +646,21 @@ static void open_one_row(void)
     HOLDS(lent[L_COUNTS].words, 1, 0, 0, 0, 0, 0);
 }
 
-static void open_mixed(void)
+static void open_every_command(void)
 {
     byte_count = 0;
     put_rows_to_come(2);
-    put_command(INPUT, 1, 400);
-    put_command(TRACE_ROW, ROW, 100);
-    put_command(JUMP_STACK, 1, 0);
-    put_command(RAM, 1, 10);
-    put_command(SAMPLED, TEALBOBBIN_SAMPLED_WORDS, 2001);
-    put_command(RAM, 1, 11);
-    put_command(OUTPUT, 1, 500);
-    put_command(INPUT, 1, 401);
-    put_command(OP_STACK, 1, P - 1);
-    put_command(TRACE_ROW, ROW, 100 + ROW);
     put_command(DIGEST, TEALBOBBIN_DIGEST_WORDS, 51);
-    put_command(RAM, 1, 12);
-    put_command(INPUT, 1, 402);
-    put_command(INPUT, 1, 403);
+    for (uint64_t i = 0; i < 4; i++)
+        put_command(INPUT, 1, 400 + i);
+    put_command(OUTPUT, 1, 500);
+    put_command(SAMPLED, TEALBOBBIN_SAMPLED_WORDS, 2001);
+    put_command(TRACE_ROW, ROW, 100);
+    put_command(TRACE_ROW, ROW, 100 + ROW);
+    put_command(OP_STACK, 1, P - 1);
+    for (uint64_t i = 0; i < 3; i++)
+        put_command(RAM, 1, 10 + i);
+    put_command(JUMP_STACK, 1, 0);
     put_command(END, 0, 0);
     DONE(open_bytes());
     COUNTS_UP(L_TRACE, 100, 2 * ROW);
@@ -661,18 +680,51 @@ static void open_mixed(void)
     TRUE(counts[TEALBOBBIN_COUNT_OUTPUT] == 1);
 }
 
-static void open_largest(void)
+/* Differences that are equal, or that ascend by a high byte alone; input and output words that descend. */
+static void open_orders(void)
+{
+    for (size_t l = 0; l < COUNT(lists); l++) {
+        uint64_t last = is_difference(lists[l].command) ? UINT64_C(1) << 32 : 6;
+        begin_for(lists[l].command);
+        put_command(lists[l].command, 1, 7);
+        put_command(lists[l].command, 1, 7);
+        put_command(lists[l].command, 1, last);
+        if (!is_difference(lists[l].command)) {
+            put_command(SAMPLED, TEALBOBBIN_SAMPLED_WORDS, 2000);
+            put_command(TRACE_ROW, ROW, 100);
+        }
+        put_command(END, 0, 0);
+        DONE(open_bytes());
+        HOLDS(lent[lists[l].slice].words, 7, 7, last);
+    }
+}
+
+/* As many words as a list holds, counting up from 1000 * l. */
+static void put_list(size_t l)
+{
+    for (size_t i = 0; i < lists[l].most; i++)
+        put_command(lists[l].command, 1, 1000 * l + i);
+}
+
+static void put_largest(void)
 {
     byte_count = 0;
     put_rows_to_come(TEALBOBBIN_BATCH_MAX_ROWS);
     put_command(DIGEST, TEALBOBBIN_DIGEST_WORDS, 52);
+    for (size_t l = 0; !is_difference(lists[l].command); l++)
+        put_list(l);
     put_command(SAMPLED, TEALBOBBIN_SAMPLED_WORDS, 2002);
     for (size_t r = 0; r < TEALBOBBIN_BATCH_MAX_ROWS; r++)
         put_command(TRACE_ROW, ROW, 3000 + r * ROW);
     for (size_t l = 0; l < COUNT(lists); l++)
-        for (size_t i = 0; i < lists[l].most; i++)
-            put_command(lists[l].command, 1, 1000 * l + i);
+        if (is_difference(lists[l].command))
+            put_list(l);
     put_command(END, 0, 0);
+}
+
+static void open_largest(void)
+{
+    put_largest();
     TRUE(byte_count == 16088);
     DONE(open_bytes());
     COUNTS_UP(L_TRACE, 3000, TEALBOBBIN_BATCH_MAX_TRACE_WORDS);
@@ -730,7 +782,7 @@ static void open_refuses_8(void)
     REFUSED(8, open_bytes());
 }
 
-/* Before 3 and 2. */
+/* Before 10, 3 and 2. */
 static void open_refuses_9(void)
 {
     byte_count = 0;
@@ -749,10 +801,16 @@ static void open_refuses_9(void)
     put_command(SAMPLED, TEALBOBBIN_SAMPLED_WORDS, P);
     REFUSED(9, open_bytes());
     for (size_t l = 0; l < COUNT(lists); l++) {
-        begin();
+        begin_for(lists[l].command);
         for (size_t i = 0; i < lists[l].most; i++)
             put_command(lists[l].command, 1, i);
         put_command(lists[l].command, 1, P);
+        REFUSED(9, open_bytes());
+    }
+    for (size_t l = 0; l < COUNT(lists); l++) {
+        put_largest();
+        byte_count--;
+        put_command(lists[l].command, 1, 0);
         REFUSED(9, open_bytes());
     }
     for (int missing = 0; missing < 3; missing++) {
@@ -771,6 +829,30 @@ static void open_refuses_9(void)
     put_command(END, 0, 0);
     put(UNKNOWN, 1);
     REFUSED(9, open_bytes());
+}
+
+/* Before 2: each command behind each that belongs after it, and differences that descend. */
+static void open_refuses_10(void)
+{
+    for (size_t late = 0; late < COUNT(order); late++)
+        for (size_t before = late + 1; before < COUNT(order); before++) {
+            byte_count = 0;
+            put_rows_to_come(1);
+            put_command(order[before].command, order[before].words, 7);
+            put_command(order[late].command, order[late].words, P);
+            REFUSED(10, open_bytes());
+            byte_count--;
+            REFUSED(8, open_bytes());
+        }
+    for (size_t l = 0; l < COUNT(lists); l++) {
+        if (!is_difference(lists[l].command))
+            continue;
+        begin();
+        put_command(lists[l].command, 1, UINT64_C(1) << 32);
+        put_command(lists[l].command, 1, 255);
+        put(UNKNOWN, 1);
+        REFUSED(10, open_bytes());
+    }
 }
 
 static void open_refuses_3(void)
@@ -799,7 +881,7 @@ static void open_refuses_2(void)
         REFUSED(2, open_bytes());
     }
     for (size_t l = 0; l < COUNT(lists); l++) {
-        begin();
+        begin_for(lists[l].command);
         put_command(lists[l].command, 1, P);
         put(UNKNOWN, 1);
         REFUSED(2, open_bytes());
@@ -810,14 +892,229 @@ static void open(void)
 {
     lend_all();
     open_one_row();
-    open_mixed();
+    open_every_command();
+    open_orders();
     open_largest();
     open_refuses_1();
     open_refuses_7();
     open_refuses_8();
     open_refuses_9();
+    open_refuses_10();
     open_refuses_3();
     open_refuses_2();
+}
+
+/* The slice that is written, with room for a batch of 33 rows and words behind it; the slices that are lent hold the contents. */
+enum { WRITTEN = 2100 };
+static uint64_t *written;
+
+static uint32_t write_lent(size_t count)
+{
+    return tealbobbin_write(lent[0].words, lent[0].count, lent[1].words, lent[1].count, lent[2].words, lent[2].count,
+                            lent[3].words, lent[3].count, lent[4].words, lent[4].count, lent[5].words, lent[5].count,
+                            lent[6].words, lent[6].count, lent[7].words, lent[7].count, (uint8_t *)written, count);
+}
+
+/* The bytes that the batch of what is lent would have. */
+static size_t length_of_lent(void)
+{
+    size_t words = 0;
+    for (size_t l = 0; l < COUNT(lists); l++)
+        words += lent[lists[l].slice].count;
+    return TEALBOBBIN_BATCH_BYTES(lent[L_TRACE].count / ROW, words);
+}
+
+/* Writes what is lent: that is `bytes`. All else is as before. */
+static void writes(int line)
+{
+    uint64_t due[WRITTEN];
+    make_stale(written, WRITTEN);
+    make_stale(due, WRITTEN);
+    memcpy(due, bytes, byte_count);
+    remember();
+    answered(line, "write_lent(byte_count)", write_lent(byte_count), TEALBOBBIN_DONE);
+    holds(line, "written", written, due, WRITTEN);
+    for (size_t s = 0; s < L_COUNTS; s++)
+        holds(line, "a slice of write", lent[s].words, NULL, 0);
+    TRUE(byte_count == length_of_lent());
+    make_stale(written, WRITTEN);
+}
+#define WRITES() writes(__LINE__)
+
+/* The slice holds `count` words, counting up from `first`. */
+static void bring(size_t slice, uint64_t first, size_t count)
+{
+    for (size_t i = 0; i < count; i++)
+        lent[slice].words[i] = first + i;
+    lent[slice].count = count;
+}
+
+/* So many rows, and nothing in the lists. */
+static void bring_rows(size_t rows)
+{
+    bring(L_TRACE, 100, rows * ROW);
+    bring(L_SAMPLED, 2000, TEALBOBBIN_SAMPLED_WORDS);
+    bring(L_DIGEST, 50, TEALBOBBIN_DIGEST_WORDS);
+    for (size_t l = 0; l < COUNT(lists); l++)
+        bring(lists[l].slice, 0, 0);
+}
+
+static void write_example(void)
+{
+    FILE *file = fopen("examples/document-01.batch", "rb");
+    byte_count = file ? fread(bytes, 1, sizeof(bytes), file) : 0;
+    if (!byte_count)
+        give_up("examples/document-01.batch cannot be read");
+    fclose(file);
+    bring_rows(1);
+    memset(lent[L_TRACE].words, 0, ROW * sizeof(uint64_t));
+    memset(lent[L_DIGEST].words, 0, TEALBOBBIN_DIGEST_WORDS * sizeof(uint64_t));
+    for (size_t i = 0; i < TEALBOBBIN_SAMPLED_WORDS; i++)
+        lent[L_SAMPLED].words[i] = i % ELEMENT ? 0 : 2;
+    WRITES();
+    DONE(tealbobbin_write(lent[L_TRACE].words, ROW, NULL, 0, NULL, 0, NULL, 0, lent[L_SAMPLED].words, TEALBOBBIN_SAMPLED_WORDS,
+                          lent[L_DIGEST].words, TEALBOBBIN_DIGEST_WORDS, NULL, 0, NULL, 0, (uint8_t *)written, byte_count));
+    TRUE(memcmp(written, bytes, byte_count) == 0);
+}
+
+/* Differences that are above the rows, equal, and in no order; input and output in theirs. */
+static void write_every_command(void)
+{
+    bring_rows(2);
+    bring(L_OP_STACK, P - 1, 1);
+    bring(L_RAM, 0, 4);
+    bring(L_JUMP_STACK, 8, 3);
+    bring(L_INPUT, 30, 2);
+    bring(L_OUTPUT, 40, 3);
+    memcpy(lent[L_RAM].words, (const uint64_t[]){UINT64_C(1) << 32, 255, 256, 255}, 4 * sizeof(uint64_t));
+    lent[L_JUMP_STACK].words[1] = 2;
+    lent[L_INPUT].words[1] = 3;
+    lent[L_OUTPUT].words[1] = 4;
+    byte_count = 0;
+    put_rows_to_come(2);
+    put_command(DIGEST, TEALBOBBIN_DIGEST_WORDS, 50);
+    put_command(INPUT, 1, 30);
+    put_command(INPUT, 1, 3);
+    put_command(OUTPUT, 1, 40);
+    put_command(OUTPUT, 1, 4);
+    put_command(OUTPUT, 1, 42);
+    put_command(SAMPLED, TEALBOBBIN_SAMPLED_WORDS, 2000);
+    put_command(TRACE_ROW, ROW, 100);
+    put_command(TRACE_ROW, ROW, 100 + ROW);
+    put_command(OP_STACK, 1, P - 1);
+    put_command(RAM, 1, 255);
+    put_command(RAM, 1, 255);
+    put_command(RAM, 1, 256);
+    put_command(RAM, 1, UINT64_C(1) << 32);
+    put_command(JUMP_STACK, 1, 2);
+    put_command(JUMP_STACK, 1, 8);
+    put_command(JUMP_STACK, 1, 10);
+    put_command(END, 0, 0);
+    WRITES();
+}
+
+/* The largest batch, its differences the other way round; then as it is opened. */
+static void write_largest(void)
+{
+    put_largest();
+    bring_rows(TEALBOBBIN_BATCH_MAX_ROWS);
+    bring(L_TRACE, 3000, TEALBOBBIN_BATCH_MAX_TRACE_WORDS);
+    bring(L_SAMPLED, 2002, TEALBOBBIN_SAMPLED_WORDS);
+    bring(L_DIGEST, 52, TEALBOBBIN_DIGEST_WORDS);
+    for (size_t l = 0; l < COUNT(lists); l++) {
+        bring(lists[l].slice, 1000 * l, lists[l].most);
+        for (size_t i = 0; is_difference(lists[l].command) && i < lists[l].most; i++)
+            lent[lists[l].slice].words[i] = 1000 * l + lists[l].most - 1 - i;
+    }
+    WRITES();
+    for (size_t s = 0; s < L_COUNTS; s++)
+        make_stale(lent[s].words, lent[s].count);
+    DONE(open_bytes());
+    WRITES();
+}
+
+/* Before 3 and 2: every word is stale. */
+static void write_refuses_1(size_t rows)
+{
+    bring_rows(rows);
+    for (size_t s = 0; s < L_COUNTS; s++)
+        make_stale(lent[s].words, lengths[s] + ROW);
+    REFUSED(1, write_lent(length_of_lent() - 1));
+    REFUSED(1, write_lent(length_of_lent() + 1));
+    REFUSED(1, write_lent(0));
+    for (size_t part = 1; part < ROW; part++) {
+        lent[L_TRACE].count = rows * ROW + part;
+        REFUSED(1, write_lent(length_of_lent()));
+    }
+    lent[L_TRACE].count = rows * ROW;
+    for (size_t l = 0; l < COUNT(lists); l++) {
+        lent[lists[l].slice].count = lists[l].most + 1;
+        REFUSED(1, write_lent(length_of_lent()));
+        lent[lists[l].slice].count = 1;
+        REFUSED(1, write_lent(length_of_lent() - 9));
+        lent[lists[l].slice].count = 0;
+    }
+    static const size_t fixed[] = {L_SAMPLED, L_DIGEST};
+    for (size_t f = 0; f < COUNT(fixed); f++) {
+        lent[fixed[f]].count = lengths[fixed[f]] - 1;
+        REFUSED(1, write_lent(length_of_lent()));
+        lent[fixed[f]].count = lengths[fixed[f]] + 1;
+        REFUSED(1, write_lent(length_of_lent()));
+        lent[fixed[f]].count = lengths[fixed[f]];
+    }
+}
+
+/* Before 2: every word is stale. */
+static void write_refuses_3(void)
+{
+    bring_rows(0);
+    for (size_t s = 0; s < L_COUNTS; s++)
+        make_stale(lent[s].words, lengths[s] + ROW);
+    REFUSED(3, write_lent(length_of_lent()));
+    lent[L_TRACE].count = (TEALBOBBIN_BATCH_MAX_ROWS + 1) * ROW;
+    REFUSED(3, write_lent(length_of_lent()));
+    for (size_t l = 0; l < COUNT(lists); l++)
+        lent[lists[l].slice].count = lists[l].most;
+    REFUSED(3, write_lent(length_of_lent()));
+
+    const size_t rows = MAX_LEN + 1, length = TEALBOBBIN_BATCH_BYTES(rows, 0);
+    uint8_t *many = (uint8_t *)lend_many(length / sizeof(uint64_t) + 1);
+    REFUSED(3, tealbobbin_write(lend_many(rows * ROW), rows * ROW, NULL, 0, NULL, 0, NULL, 0, lent[L_SAMPLED].words,
+                                TEALBOBBIN_SAMPLED_WORDS, lent[L_DIGEST].words, TEALBOBBIN_DIGEST_WORDS, NULL, 0, NULL, 0,
+                                many, length));
+}
+
+/* Each word of each slice. */
+static void write_refuses_2(void)
+{
+    bring_rows(TEALBOBBIN_BATCH_MAX_ROWS);
+    for (size_t l = 0; l < COUNT(lists); l++)
+        bring(lists[l].slice, 0, lists[l].most);
+    for (size_t s = 0; s < L_COUNTS; s++)
+        for (size_t i = 0; i < lent[s].count; i++) {
+            uint64_t word = lent[s].words[i];
+            lent[s].words[i] = P;
+            REFUSED(2, write_lent(length_of_lent()));
+            lent[s].words[i] = word;
+        }
+}
+
+static void write(void)
+{
+    for (size_t s = 0; s < L_COUNTS; s++)
+        lent[s].words = lend(lengths[s] + ROW);
+    written = lend(WRITTEN);
+    write_example();
+    write_every_command();
+    write_refuses_1(0);
+    write_refuses_1(1);
+    write_refuses_1(TEALBOBBIN_BATCH_MAX_ROWS + 1);
+    write_refuses_3();
+    write_refuses_2();
+    give_back();
+    lend_all();
+    written = lend(WRITTEN);
+    write_largest();
 }
 
 static void constants(void)
@@ -831,6 +1128,8 @@ static void constants(void)
     TRUE(TEALBOBBIN_SAMPLED_WORDS == TEALBOBBIN_SAMPLE_COUNT * ELEMENT);
     TRUE(TEALBOBBIN_AUX_WORDS == TEALBOBBIN_AUX_WIDTH * ELEMENT);
     TRUE(TEALBOBBIN_BATCH_MAX_TRACE_WORDS == TEALBOBBIN_BATCH_MAX_ROWS * ROW);
+    TRUE(TEALBOBBIN_BATCH_BYTES(1, 0) == 1777);
+    TRUE(TEALBOBBIN_BATCH_BYTES(TEALBOBBIN_BATCH_MAX_ROWS, 3 * TEALBOBBIN_BATCH_MAX_DIFFERENCES + 64 + 64) == 16088);
 }
 
 static const struct {
@@ -859,7 +1158,8 @@ static const struct {
       TEALBOBBIN_WORD_NOT_BELOW_P, TEALBOBBIN_ZERO_DENOMINATOR}},
     {"open", open,
      {TEALBOBBIN_SLICE_LENGTH, TEALBOBBIN_UNKNOWN_COMMAND, TEALBOBBIN_BATCH_CUT_OFF,
-      TEALBOBBIN_COMMAND_OUT_OF_PLACE, TEALBOBBIN_ROW_COUNT, TEALBOBBIN_WORD_NOT_BELOW_P}},
+      TEALBOBBIN_COMMAND_OUT_OF_PLACE, TEALBOBBIN_COMMAND_OUT_OF_ORDER, TEALBOBBIN_ROW_COUNT, TEALBOBBIN_WORD_NOT_BELOW_P}},
+    {"write", write, {TEALBOBBIN_SLICE_LENGTH, TEALBOBBIN_ROW_COUNT, TEALBOBBIN_WORD_NOT_BELOW_P}},
 };
 
 int main(void)

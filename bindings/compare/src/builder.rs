@@ -3,6 +3,8 @@
 use tealbobbin::challenges::{Digest, SampledChallenges};
 use tealbobbin::processor::MAIN_WIDTH;
 
+use crate::plain::batch::ORDER;
+
 /// A batch in the making: its commands in the order in which they were added, any of them any number of times. Nothing is checked.
 #[derive(Debug, Clone, Default, PartialEq, Eq)]
 pub struct Builder {
@@ -72,6 +74,18 @@ impl Builder {
     /// The end of the batch.
     pub fn end(&mut self) -> &mut Builder {
         self.raw(&[0])
+    }
+
+    /// The commands in a batch's order, and each list of differences in theirs.
+    pub fn ordered(&mut self) -> &mut Builder {
+        self.commands.sort_by_key(|command| {
+            let difference = match command[..] {
+                [3..=5, ref word @ ..] => word.try_into().map_or(0, u64::from_le_bytes),
+                _ => 0,
+            };
+            (ORDER.iter().position(|other| command.first() == Some(other)), difference)
+        });
+        self
     }
 
     /// The batch's bytes.

@@ -1,5 +1,7 @@
 //! Counts what was compared, and prints what differs.
 
+use std::fmt::Debug;
+
 /// What stands in a lent slice before a call, so that a word written after a refusal shows.
 const MARK: u64 = 0x5ca1_ab1e_0000_0000;
 
@@ -10,7 +12,7 @@ pub fn marks(length: usize) -> Vec<u64> {
 pub struct Tally {
     name: &'static str,
     compared: u64,
-    refused: [u64; 10],
+    refused: [u64; 11],
     different: u64,
     /// Rows of the tables that both sides wrote.
     pub rows: u64,
@@ -18,18 +20,21 @@ pub struct Tally {
 
 impl Tally {
     pub fn new(name: &'static str) -> Tally {
-        Tally { name, compared: 0, refused: [0; 10], different: 0, rows: 0 }
+        Tally { name, compared: 0, refused: [0; 11], different: 0, rows: 0 }
     }
 
     /// A call's number and what the lent slice held before and holds now, against the number and the words that are expected.
-    /// After a refusal the slice is to hold what it held.
-    pub fn check(&mut self, what: &str, input: &[u64], before: &[u64], got: (u32, &[u64]), number: u32, words: &[u64]) {
+    /// After a refusal the slice is to hold what it held. Words may also be bytes.
+    pub fn check<T>(&mut self, what: &str, input: &[u64], before: &[T], got: (u32, &[T]), number: u32, words: &[T])
+    where
+        T: Copy + PartialEq + Debug,
+    {
         self.compared += 1;
         self.refused[number as usize] += 1;
         let wanted = if number == 0 { words } else { before };
         if got.0 != number || got.1 != wanted {
             let at = got.1.iter().zip(wanted).position(|(g, w)| g != w).unwrap_or(0);
-            let from = |words: &[u64]| words.iter().skip(at).take(16).copied().collect::<Vec<u64>>();
+            let from = |words: &[T]| words.iter().skip(at).take(16).copied().collect::<Vec<T>>();
             let input = &input[..input.len().min(16)];
             self.differ(format!("{what} {input:?}: got {} {:?}, expected {number} {:?}, from word {at} on", got.0, from(got.1), from(wanted)));
         }
@@ -53,9 +58,11 @@ impl Tally {
 
     /// One line for all that was compared; whether there was no difference.
     pub fn report(&self) -> bool {
-        let refused: Vec<String> = (1..10).filter(|&n| self.refused[n] > 0).map(|n| format!("{n}: {}", self.refused[n])).collect();
+        let refused = (1..self.refused.len()).filter(|&n| self.refused[n] > 0).map(|n| format!("{n}: {}", self.refused[n]));
+        let refused: Vec<String> = refused.collect();
         let rows = if self.rows > 0 { format!("; {} rows of tables", self.rows) } else { String::new() };
-        println!("{}: {} calls compared, refused {}{rows}; {} differences", self.name, self.compared, refused.join(", "), self.different);
+        let refused = if refused.is_empty() { "none refused".into() } else { format!("refused {}", refused.join(", ")) };
+        println!("{}: {} calls compared, {refused}{rows}; {} differences", self.name, self.compared, self.different);
         self.different == 0
     }
 }

@@ -1,8 +1,11 @@
-//! Opening: the crate's [`Batch`] and the plain reader.
+//! Opening and writing: the crate's [`Batch`] and plain Rust.
 
 use compare::builder::Builder;
 use compare::plain;
+use compare::plain::batch::ORDER;
+use tealbobbin::abi;
 use tealbobbin::batch::{Batch, MAX_BYTES};
+use tealbobbin::challenges::{Claim, SampledChallenges};
 use tealbobbin::field::{Element, P};
 use tealbobbin::processor::{ClkJumpDiffs, MainRow};
 use tealbobbin::Refusal;
@@ -21,6 +24,11 @@ fn new() -> Builder {
 /// One row, digest and challenges; the end is still to come.
 fn run() -> Builder {
     new().rows(1).digest(&[0; 5]).sampled(&[2; 177]).row(&[0; 39]).clone()
+}
+
+/// One of every command but the end.
+fn one_of_each() -> Builder {
+    run().input(1).output(2).op_stack(3).ram(4).jump_stack(5).ordered().clone()
 }
 
 #[test]
@@ -50,6 +58,7 @@ fn rows_announced() {
     answers(new().rows(2).digest(&[0; 5]).sampled(&[2; 177]).row(&[0; 39]).end(), 9);
 }
 
+/// Also behind commands that belong after it.
 #[test]
 fn past_a_count() {
     for (command, most) in [(3, 128), (4, 128), (5, 128), (8, 64), (9, 64)] {
@@ -57,11 +66,13 @@ fn past_a_count() {
         for k in 0..most {
             full.command(command, &[k]);
         }
+        full.ordered();
         answers(full.clone().end(), 0);
         answers(full.clone().command(command, &[0]), 9);
         answers(full.clone().command(command, &[P]), 9);
         answers(full.clone().raw(&[command, 0, 0, 0, 0, 0, 0, 0]), 8);
         answers(full.clone().raw(&[command]), 8);
+        answers(full.clone().command(command, &[most]).ordered().end(), 9);
     }
     for (command, words) in [(6, 177), (7, 5)] {
         answers(run().command(command, &vec![0; words]), 9);
@@ -71,12 +82,58 @@ fn past_a_count() {
 }
 
 #[test]
+fn commands_out_of_order() {
+    let batch = one_of_each();
+    assert_eq!(batch.clone().end().commands.iter().map(|command| command[0]).collect::<Vec<u8>>(), ORDER);
+    answers(batch.clone().end(), 0);
+    for from in 1..batch.commands.len() {
+        for to in from + 1..batch.commands.len() {
+            let mut late = batch.clone();
+            let command = late.commands.remove(from);
+            late.commands.insert(to, command);
+            answers(late.clone().end(), 10);
+            late.commands[to][1..].fill(255);
+            late.commands.truncate(to + 1);
+            answers(&late, 10);
+            late.commands[to].pop();
+            answers(&late, 8);
+        }
+    }
+    // challenges that are missing are no fault before the end, or before they come late
+    let missing = new().rows(1).digest(&[0; 5]).row(&[0; 39]).clone();
+    answers(&missing, 8);
+    answers(missing.clone().end(), 9);
+    answers(missing.clone().sampled(&[2; 177]), 10);
+}
+
+#[test]
+fn differences_descending() {
+    for command in 3..=5 {
+        let after = |first: u64, second: u64| run().command(command, &[first]).command(command, &[second]).end().clone();
+        answers(&after(0, 0), 0);
+        answers(&after(7, 7), 0);
+        answers(&after(P - 1, P - 1), 0);
+        answers(&after(7, 6), 10);
+        answers(&after(1 << 32, 1), 10);
+        answers(&after(1 << 56, 255), 10);
+        answers(&after(P - 1, 0), 10);
+        answers(&after(P - 1, P), 2);
+        answers(&after(P, 0), 2);
+    }
+    answers(run().op_stack(9).ram(8).jump_stack(7).end(), 0);
+    answers(run().op_stack(1).op_stack(3).op_stack(2).end(), 10);
+    // input and output words are in any order
+    answers(run().input(2).input(1).output(2).output(1).end().ordered(), 0);
+}
+
+#[test]
 fn words_not_below_p() {
     for command in [3, 4, 5, 8, 9] {
-        answers(run().command(command, &[P - 1]).end(), 0);
-        answers(run().command(command, &[P]).end(), 2);
-        answers(run().command(command, &[P]).raw(&[10]), 2);
-        answers(run().raw(&[10]).command(command, &[P]), 7);
+        let one = |word: u64| run().command(command, &[word]).end().ordered().clone();
+        answers(&one(P - 1), 0);
+        answers(&one(P), 2);
+        answers(one(P).raw(&[10]), 2);
+        answers(new().rows(1).raw(&[10]).command(command, &[P]), 7);
     }
 }
 
@@ -103,13 +160,13 @@ fn longest() {
     for row in 1..32 {
         batch.row(&[row; 39]);
     }
-    for k in 0..128 {
+    for k in (0..128).rev() {
         batch.jump_stack(k).op_stack(2 * k).ram(3 * k);
     }
     for k in 0..64 {
         batch.output(5 * k).input(4 * k);
     }
-    let bytes = batch.end().bytes();
+    let bytes = batch.end().ordered().bytes();
     assert_eq!(bytes.len(), 16_088);
     let multiples = |count: u64, of: u64| (0..count).map(|k| of * k).collect::<Vec<u64>>();
     let [jump_stack, op_stack, ram] = [1, 2, 3].map(|of| multiples(128, of));
@@ -133,13 +190,87 @@ fn heights() {
     }
 }
 
-/// Equal contents, whatever the order of the commands.
 #[test]
 fn equality() {
-    let open = |batch: &mut Builder| Batch::open(&batch.end().bytes()).unwrap();
+    let open = |batch: &mut Builder| Batch::open(&batch.end().ordered().bytes()).unwrap();
     let one = open(run().input(1).output(2));
     assert_eq!(one, open(run().output(2).input(1)));
     assert_ne!(one, open(run().input(2).output(1)));
     assert_ne!(one, open(run().input(1)));
     assert_ne!(open(run().ram(0)), open(run().op_stack(0)));
+}
+
+/// The library's answer and the plain writer's; nothing is written where it is not 0.
+fn writes(contents: [&[u64]; 8], length: usize, number: u32) -> Vec<u8> {
+    let (mut ours, mut plainly) = (vec![0xa5; length], vec![0xa5; length]);
+    assert_eq!(abi::write(contents, &mut ours), number);
+    assert_eq!(plain::batch::write(contents, &mut plainly), number);
+    assert_eq!(ours, plainly);
+    assert!(number == 0 || ours == vec![0xa5; length]);
+    ours
+}
+
+#[test]
+fn written() {
+    let (mut trace, sampled, digest) = (vec![8; 2 * 39], [6; 177], [7; 5]);
+    trace[39..].fill(9);
+    let contents = [&trace[..], &[5, 3, 4, 3], &[P - 1, 0], &[1], &sampled, &digest, &[2, 1], &[3, 9, 3]];
+    let mut batch = new();
+    batch.rows(2).digest(&digest).input(2).input(1).output(3).output(9).output(3).sampled(&sampled).row(&[8; 39]).row(&[9; 39]);
+    batch.op_stack(3).op_stack(3).op_stack(4).op_stack(5).ram(0).ram(P - 1).jump_stack(1);
+    let bytes = batch.end().bytes();
+    assert_eq!(writes(contents, bytes.len(), 0), bytes);
+    assert_eq!(plain::batch::length(&contents), bytes.len());
+    let opened = Batch::open(&bytes).unwrap();
+    let mut again = vec![0; opened.written_len()];
+    opened.write(&mut again).unwrap();
+    assert_eq!(again, bytes);
+
+    let mut filled = Batch::new();
+    filled.set_trace(&[MainRow([8; 39]), MainRow([9; 39])]).unwrap();
+    filled.set_differences(ClkJumpDiffs { op_stack: &[3, 5, 4, 3], ram: &[P - 1, 0], jump_stack: &[1] }).unwrap();
+    filled.set_sampled(&SampledChallenges([Element([6; 3]); 59]));
+    filled.set_claim(Claim { program_digest: digest, input: &[2, 1], output: &[3, 9, 3] }).unwrap();
+    filled.write(&mut again).unwrap();
+    assert_eq!(again, bytes);
+    assert_ne!(filled, opened);
+}
+
+/// What is wrong comes first in the order 1, 3, 2.
+#[test]
+fn not_written() {
+    let words = vec![P; 41 * 39];
+    let (list, io) = (&words[..128], &words[..64]);
+    let contents = |rows: usize| [&words[..rows * 39], list, list, list, &words[..177], &words[..5], io, io];
+    for rows in [0, 1, 32, 33, 40] {
+        let (contents, length) = (contents(rows), 1464 + 313 * rows + 9 * 512);
+        writes(contents, length, if (1..=32).contains(&rows) { 2 } else { 3 });
+        writes(contents, length - 1, 1);
+        writes(contents, length + 1, 1);
+        writes(contents, 0, 1);
+        for (slice, by) in [(0, 0), (1, 9), (2, 9), (3, 9), (4, 0), (5, 0), (6, 9), (7, 9)] {
+            let mut longer = contents;
+            longer[slice] = &words[..contents[slice].len() + 1];
+            writes(longer, length, 1);
+            writes(longer, length + by, 1);
+        }
+        for slice in [4, 5] {
+            let mut shorter = contents;
+            shorter[slice] = &words[..contents[slice].len() - 1];
+            writes(shorter, length, 1);
+        }
+    }
+    let zeros = vec![0; 39];
+    let least = [&zeros[..], &[], &[], &[], &[0; 177], &[0; 5], &[], &[]];
+    for slice in 0..8 {
+        let mut bad = least[slice].to_vec();
+        bad.resize(bad.len().max(1), 0);
+        for place in 0..bad.len() {
+            let mut contents = least;
+            let word = std::mem::replace(&mut bad[place], P);
+            contents[slice] = &bad;
+            writes(contents, plain::batch::length(&contents), 2);
+            bad[place] = word;
+        }
+    }
 }

@@ -87,6 +87,26 @@ mod raw {
             counts: *mut u64,
             cl: usize,
         ) -> u32;
+        pub fn tealbobbin_write(
+            trace: *const u64,
+            tl: usize,
+            op_stack: *const u64,
+            ol: usize,
+            ram: *const u64,
+            rl: usize,
+            jump_stack: *const u64,
+            jl: usize,
+            sampled: *const u64,
+            sl: usize,
+            digest: *const u64,
+            dl: usize,
+            input: *const u64,
+            il: usize,
+            output: *const u64,
+            len: usize,
+            bytes: *mut u8,
+            bl: usize,
+        ) -> u32;
     }
 }
 
@@ -296,6 +316,34 @@ pub fn open(bytes: &[u8], slices: [&mut [u64]; 8], counts: &mut [u64]) -> u32 {
             output.len(),
             counts.as_mut_ptr(),
             counts.len(),
+        )
+    }
+}
+
+/// The batch with these slices' contents into `bytes`: trace, op stack, RAM, jump stack, sampled, digest, input, output.
+#[must_use]
+pub fn write(slices: [&[u64]; 8], bytes: &mut [u8]) -> u32 {
+    let [trace, op_stack, ram, jump_stack, sampled, digest, input, output] = slices;
+    unsafe {
+        raw::tealbobbin_write(
+            trace.as_ptr(),
+            trace.len(),
+            op_stack.as_ptr(),
+            op_stack.len(),
+            ram.as_ptr(),
+            ram.len(),
+            jump_stack.as_ptr(),
+            jump_stack.len(),
+            sampled.as_ptr(),
+            sampled.len(),
+            digest.as_ptr(),
+            digest.len(),
+            input.as_ptr(),
+            input.len(),
+            output.as_ptr(),
+            output.len(),
+            bytes.as_mut_ptr(),
+            bytes.len(),
         )
     }
 }

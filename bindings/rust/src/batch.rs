@@ -1,12 +1,42 @@
 //! Batches: one run's trace, differences, sampled challenges and claim in one row of bytes. docs/BATCH.md has the format.
+//!
+//! A house fills a batch and writes it, a station opens it:
+//!
+//! ```
+//! use tealbobbin::batch::Batch;
+//! use tealbobbin::challenges::{Challenges, Claim, SampledChallenges};
+//! use tealbobbin::field::Element;
+//! use tealbobbin::processor::{ClkJumpDiffs, MainRow};
+//!
+//! let mut batch = Batch::new();
+//! batch
+//!     .set_trace(&[MainRow::ZERO; 3])?
+//!     .set_differences(ClkJumpDiffs { op_stack: &[2, 0, 1], ram: &[1, 1], jump_stack: &[] })?
+//!     .set_sampled(&SampledChallenges([Element::from(2); Challenges::SAMPLE_COUNT]))
+//!     .set_claim(Claim { program_digest: [1, 2, 3, 4, 5], input: &[9, 7], output: &[8] })?;
+//! let mut bytes = vec![0; batch.written_len()];
+//! batch.write(&mut bytes)?;
+//!
+//! let opened = Batch::open(&bytes)?;
+//! assert_eq!(opened.trace(), batch.trace());
+//! assert_eq!(opened.sampled(), batch.sampled());
+//! assert_eq!(opened.claim(), batch.claim());
+//! assert_eq!(opened.differences(), ClkJumpDiffs { op_stack: &[0, 1, 2], ram: &[1, 1], jump_stack: &[] });
+//!
+//! // a run has one batch: whoever packs it, in whatever order its differences come, writes these bytes
+//! let mut again = vec![0; opened.written_len()];
+//! opened.write(&mut again)?;
+//! assert_eq!(again, bytes);
+//! # Ok::<(), tealbobbin::Refusal>(())
+//! ```
 
 use core::fmt::{Debug, Formatter, Result as Written};
-use core::slice::from_mut;
+use core::slice::{from_mut, from_ref};
 
-use crate::abi::{self, words_mut};
+use crate::abi::{self, words, words_mut};
 use crate::challenges::{Challenges, Claim, Digest, SampledChallenges};
 use crate::field::Element;
-use crate::processor::{ClkJumpDiffs, MainRow};
+use crate::processor::{ClkJumpDiffs, MainRow, MAIN_WIDTH};
 use crate::{answer, Refusal};
 
 /// The most bytes of a batch.
@@ -21,7 +51,7 @@ pub const MAX_DIFFERENCES: usize = 128;
 /// The most words of a batch's input, and of its output.
 pub const MAX_IO_WORDS: usize = 64;
 
-/// What a batch brings. It takes 16 KB and allocates nothing.
+/// What a batch brings, opened or to be written. It takes 16 KB and allocates nothing.
 #[derive(Clone)]
 pub struct Batch {
     trace: [MainRow; MAX_TRACE_ROWS],
@@ -37,14 +67,9 @@ pub struct Batch {
 }
 
 impl Batch {
-    /// Reads a batch of at most [`MAX_BYTES`] bytes.
-    ///
-    /// # Errors
-    ///
-    /// [`Refusal::SliceLength`] if it has more bytes; then, at the first command with a fault, [`Refusal::UnknownCommand`],
-    /// [`Refusal::BatchCutOff`], [`Refusal::CommandOutOfPlace`], [`Refusal::RowCount`] or [`Refusal::WordNotBelowP`], in this order.
-    pub fn open(bytes: &[u8]) -> Result<Batch, Refusal> {
-        let mut batch = Batch {
+    /// No rows, differences, input and output; challenges and digest of zeros.
+    pub const fn new() -> Batch {
+        Batch {
             trace: [MainRow::ZERO; MAX_TRACE_ROWS],
             op_stack: [0; MAX_DIFFERENCES],
             ram: [0; MAX_DIFFERENCES],
@@ -54,7 +79,18 @@ impl Batch {
             input: [0; MAX_IO_WORDS],
             output: [0; MAX_IO_WORDS],
             counts: [0; 6],
-        };
+        }
+    }
+
+    /// Reads a batch of at most [`MAX_BYTES`] bytes.
+    ///
+    /// # Errors
+    ///
+    /// [`Refusal::SliceLength`] if it has more bytes; then, at the first command with a fault, [`Refusal::UnknownCommand`],
+    /// [`Refusal::BatchCutOff`], [`Refusal::CommandOutOfPlace`], [`Refusal::CommandOutOfOrder`], [`Refusal::RowCount`] or
+    /// [`Refusal::WordNotBelowP`], in this order.
+    pub fn open(bytes: &[u8]) -> Result<Batch, Refusal> {
+        let mut batch = Batch::new();
         let slices = [
             words_mut(&mut batch.trace),
             &mut batch.op_stack,
@@ -69,12 +105,93 @@ impl Batch {
         answer(number, batch)
     }
 
+    /// The trace becomes these rows.
+    ///
+    /// # Errors
+    ///
+    /// [`Refusal::RowCount`] if there are over [`MAX_TRACE_ROWS`].
+    pub fn set_trace(&mut self, trace: &[MainRow]) -> Result<&mut Batch, Refusal> {
+        self.trace.get_mut(..trace.len()).ok_or(Refusal::RowCount)?.copy_from_slice(trace);
+        self.counts[0] = trace.len() as u64;
+        Ok(self)
+    }
+
+    /// The clock jump differences become these, each list in any order.
+    ///
+    /// # Errors
+    ///
+    /// [`Refusal::SliceLength`] if a list has over [`MAX_DIFFERENCES`].
+    pub fn set_differences(&mut self, differences: ClkJumpDiffs<'_>) -> Result<&mut Batch, Refusal> {
+        let ClkJumpDiffs { op_stack, ram, jump_stack } = differences;
+        if [op_stack, ram, jump_stack].iter().any(|list| list.len() > MAX_DIFFERENCES) {
+            return Err(Refusal::SliceLength);
+        }
+        self.op_stack[..op_stack.len()].copy_from_slice(op_stack);
+        self.ram[..ram.len()].copy_from_slice(ram);
+        self.jump_stack[..jump_stack.len()].copy_from_slice(jump_stack);
+        self.counts[1..4].copy_from_slice(&[op_stack, ram, jump_stack].map(|list| list.len() as u64));
+        Ok(self)
+    }
+
+    /// The sampled challenges become these.
+    pub fn set_sampled(&mut self, sampled: &SampledChallenges) -> &mut Batch {
+        self.sampled.clone_from(sampled);
+        self
+    }
+
+    /// The program's digest, input and output become the claim's.
+    ///
+    /// # Errors
+    ///
+    /// [`Refusal::SliceLength`] if input or output has over [`MAX_IO_WORDS`].
+    pub fn set_claim(&mut self, claim: Claim<'_>) -> Result<&mut Batch, Refusal> {
+        let Claim { program_digest, input, output } = claim;
+        if input.len() > MAX_IO_WORDS || output.len() > MAX_IO_WORDS {
+            return Err(Refusal::SliceLength);
+        }
+        self.program_digest = program_digest;
+        self.input[..input.len()].copy_from_slice(input);
+        self.output[..output.len()].copy_from_slice(output);
+        self.counts[4..].copy_from_slice(&[input, output].map(|words| words.len() as u64));
+        Ok(self)
+    }
+
+    /// The bytes that [`Batch::write`] writes, at most [`MAX_BYTES`].
+    pub fn written_len(&self) -> usize {
+        let [rows, words @ ..] = self.counts;
+        let (row, word) = (1 + 8 * MAIN_WIDTH, 1 + 8);
+        let others = (1 + 4) + (1 + 8 * self.program_digest.len()) + (1 + 8 * SampledChallenges::WORDS) + 1;
+        others + row * rows as usize + word * words.iter().sum::<u64>() as usize
+    }
+
+    /// Writes the batch into [`written_len`](Batch::written_len) bytes, the differences sorted. Batches with equal contents, in
+    /// whatever order their differences are, have equal bytes.
+    ///
+    /// # Errors
+    ///
+    /// [`Refusal::SliceLength`] at another number of bytes, then [`Refusal::RowCount`] if there is no row, then
+    /// [`Refusal::WordNotBelowP`].
+    pub fn write(&self, bytes: &mut [u8]) -> Result<(), Refusal> {
+        let (ClkJumpDiffs { op_stack, ram, jump_stack }, claim) = (self.differences(), self.claim());
+        let slices = [
+            words(self.trace()),
+            op_stack,
+            ram,
+            jump_stack,
+            words(from_ref(&self.sampled)),
+            &self.program_digest,
+            claim.input,
+            claim.output,
+        ];
+        answer(abi::write(slices, bytes), ())
+    }
+
     /// The trace.
     pub fn trace(&self) -> &[MainRow] {
         &self.trace[..self.counts[0] as usize]
     }
 
-    /// The clock jump differences, each list in the batch's order.
+    /// The clock jump differences: each list in the order in which it was set, or not descending in a batch that was opened.
     pub fn differences(&self) -> ClkJumpDiffs<'_> {
         ClkJumpDiffs {
             op_stack: &self.op_stack[..self.counts[1] as usize],
@@ -88,7 +205,7 @@ impl Batch {
         &self.sampled
     }
 
-    /// The program's digest, and input and output in the batch's order.
+    /// The program's digest, and input and output in their order.
     pub fn claim(&self) -> Claim<'_> {
         Claim {
             program_digest: self.program_digest,
@@ -103,6 +220,13 @@ impl Batch {
     }
 }
 
+impl Default for Batch {
+    fn default() -> Batch {
+        Batch::new()
+    }
+}
+
+/// Equal contents, the differences in equal order.
 impl PartialEq for Batch {
     fn eq(&self, other: &Batch) -> bool {
         self.trace() == other.trace()
@@ -122,5 +246,71 @@ impl Debug for Batch {
             .field("sampled", self.sampled())
             .field("claim", &self.claim())
             .finish()
+    }
+}
+
+#[cfg(test)]
+mod tests {
+    use super::*;
+    use crate::field::P;
+
+    const CLAIM: Claim<'_> = Claim { program_digest: [0; 5], input: &[], output: &[] };
+
+    #[test]
+    fn the_example() {
+        let mut batch = Batch::new();
+        batch.set_trace(&[MainRow::ZERO]).unwrap().set_sampled(&SampledChallenges([Element::from(2); Challenges::SAMPLE_COUNT]));
+        let mut bytes = [0; 1777];
+        assert_eq!(batch.write(&mut bytes), Ok(()));
+        assert_eq!(&bytes, include_bytes!("../../../examples/document-01.batch"));
+        assert_eq!(Batch::open(&bytes), Ok(batch));
+    }
+
+    #[test]
+    fn as_much_as_it_holds() {
+        let words = [7; MAX_DIFFERENCES + 1];
+        let (list, io) = (&words[..MAX_DIFFERENCES], &words[..MAX_IO_WORDS]);
+        let mut batch = Batch::new();
+        batch.set_trace(&[MainRow([8; MAIN_WIDTH]); MAX_TRACE_ROWS]).unwrap();
+        batch.set_differences(ClkJumpDiffs { op_stack: list, ram: list, jump_stack: list }).unwrap();
+        batch.set_claim(Claim { input: io, output: io, ..CLAIM }).unwrap();
+        let full = batch.clone();
+        assert_eq!(batch.set_trace(&[MainRow::ZERO; MAX_TRACE_ROWS + 1]).err(), Some(Refusal::RowCount));
+        for list in 0..3 {
+            let [op_stack, ram, jump_stack] = core::array::from_fn(|other| if other == list { &words[..] } else { &[] });
+            let differences = ClkJumpDiffs { op_stack, ram, jump_stack };
+            assert_eq!(batch.set_differences(differences).err(), Some(Refusal::SliceLength));
+        }
+        let longer = &words[..MAX_IO_WORDS + 1];
+        assert_eq!(batch.set_claim(Claim { input: longer, ..CLAIM }).err(), Some(Refusal::SliceLength));
+        assert_eq!(batch.set_claim(Claim { output: longer, ..CLAIM }).err(), Some(Refusal::SliceLength));
+        assert_eq!(batch, full);
+        let mut bytes = [0; 16_088];
+        assert_eq!(batch.write(&mut bytes), Ok(()));
+        assert_eq!(Batch::open(&bytes), Ok(full));
+    }
+
+    #[test]
+    fn set_again() {
+        let (mut batch, mut bytes) = (Batch::default(), [0; 1777 + 9]);
+        batch.set_trace(&[MainRow([1; MAIN_WIDTH]); 5]).unwrap().set_trace(&[MainRow::ZERO]).unwrap();
+        batch.set_claim(Claim { input: &[1, 2], output: &[3], ..CLAIM }).unwrap();
+        batch.set_claim(Claim { output: &[4], ..CLAIM }).unwrap();
+        batch.set_differences(ClkJumpDiffs { op_stack: &[1, 2], ram: &[3], jump_stack: &[4] }).unwrap();
+        batch.set_differences(ClkJumpDiffs::default()).unwrap();
+        assert_eq!(batch.write(&mut bytes), Ok(()));
+        assert_eq!(Batch::open(&bytes).unwrap().claim(), Claim { output: &[4], ..CLAIM });
+    }
+
+    #[test]
+    fn refusals() {
+        let (mut batch, mut bytes) = (Batch::new(), [9; 1777]);
+        assert_eq!(batch.written_len(), 1464);
+        assert_eq!(batch.write(&mut bytes[..1464]), Err(Refusal::RowCount));
+        assert_eq!(batch.write(&mut bytes[..1463]), Err(Refusal::SliceLength));
+        batch.set_trace(&[MainRow([P; MAIN_WIDTH])]).unwrap();
+        assert_eq!(batch.write(&mut bytes[..1776]), Err(Refusal::SliceLength));
+        assert_eq!(batch.write(&mut bytes), Err(Refusal::WordNotBelowP));
+        assert_eq!(bytes, [9; 1777]);
     }
 }

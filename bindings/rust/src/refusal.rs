@@ -56,12 +56,13 @@ macro_rules! refusals {
 
 refusals! {
     /// 1: a slice has the wrong length.
-    SliceLength = 1, "a slice has the wrong length (a batch has at most {MAX_BYTES} bytes, a list or scan {MAX_ROWS} items; \
-        extension takes an auxiliary row and {WORK_WIDTH} words of work for each row of the main table)";
+    SliceLength = 1, "a slice has the wrong length (a batch has at most {MAX_BYTES} bytes, {MAX_DIFFERENCES} differences in a list and \
+        {MAX_IO_WORDS} words of input and of output, and is written into exactly the bytes that it takes; another list, or a scan, has \
+        at most {MAX_ROWS} items; extension takes an auxiliary row and {WORK_WIDTH} words of work for each row of the main table)";
     /// 2: a word is not below p.
     WordNotBelowP = 2, "a word is not below p = {P} (reduce every word modulo p before handing it over)";
     /// 3: a number of rows is out of range.
-    RowCount = 3, "a number of rows is out of range (a batch announces 1 to {MAX_TRACE_ROWS}; a table has at least its trace's, \
+    RowCount = 3, "a number of rows is out of range (a batch has 1 to {MAX_TRACE_ROWS}; a table has at least its trace's, \
         2 to be padded, 1 to be extended, and at most {MAX_ROWS})";
     /// 4: a clock jump difference is not below the number of trace rows.
     DifferenceTooLarge = 4, "a clock jump difference is not below the number of trace rows (it names a row of its own trace)";
@@ -78,6 +79,9 @@ refusals! {
     /// 9: a batch has a command out of place or too often, or lacks one.
     CommandOutOfPlace = 9, "the batch has a command out of place or too often, or lacks one (01 first and once, 06 and 07 once each, \
         02 as often as 01 says, 03 to 05 at most {MAX_DIFFERENCES} times each, 08 and 09 at most {MAX_IO_WORDS} times each, 00 last)";
+    /// 10: a batch has a command behind one that belongs after it, or a difference below the one before it.
+    CommandOutOfOrder = 10, "the batch has a command behind one that belongs after it, or a difference below the one before it (the \
+        order is 01, 07, all 08, all 09, 06, all 02, all 03, all 04, all 05, 00, each list of differences not descending)";
 }
 
 impl Error for Refusal {}
@@ -104,7 +108,7 @@ mod tests {
         for number in (1..=20).chain([u32::MAX]) {
             let refusal = Refusal::from_number(number).unwrap();
             assert_eq!(refusal.number(), number);
-            assert_eq!(matches!(refusal, Refusal::Other { .. }), number > 9);
+            assert_eq!(matches!(refusal, Refusal::Other { .. }), number > 10);
             assert!(refusal.to_string().starts_with(&std::format!("refused {number}: ")));
         }
     }

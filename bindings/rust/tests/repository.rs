@@ -1,7 +1,11 @@
 //! What the crate says, held to the repository's other files.
 
 use tealbobbin::air::{ChallengeId, ProcessorAuxColumn, ProcessorMainColumn};
-use tealbobbin::challenges::Challenges;
+use tealbobbin::batch::Batch;
+use tealbobbin::challenges::{Challenges, Claim, SampledChallenges};
+use tealbobbin::field::Element;
+use tealbobbin::processor::{ClkJumpDiffs, MainRow};
+use tealbobbin::Refusal;
 
 /// Kind, name and opcode or place a line, as the Rattle crates have them.
 const NAMES: &str = include_str!("../../../crates/list_names/stdout");
@@ -26,4 +30,49 @@ fn readme_shows_the_example() {
     let shown: String = example.iter().filter(|line| !line.starts_with("# ")).map(|line| format!("{line}\n")).collect();
     assert!(shown.contains("fn main()"));
     assert!(include_str!("../../../README.md").contains(&format!("\n```rust\n{shown}```\n")));
+}
+
+/// Bytes in hexadecimal: `A*n` is n times A, which is a byte, or bytes in brackets.
+fn bytes_of(mut text: &str) -> Vec<u8> {
+    let mut bytes = vec![];
+    while !text.is_empty() {
+        let (item, after) = match text.strip_prefix('(').and_then(|text| text.split_once(')')) {
+            Some((group, after)) => (bytes_of(group), after),
+            None => (vec![u8::from_str_radix(&text[..2], 16).unwrap()], &text[2..]),
+        };
+        let (times, after) = after.split_once(' ').unwrap_or((after, ""));
+        bytes.extend(item.repeat(times.strip_prefix('*').map_or(1, |times| times.parse().unwrap())));
+        text = after;
+    }
+    bytes
+}
+
+/// The example of docs/BATCH.md, and what the page says of it.
+#[test]
+fn batch_page_shows_a_batch() {
+    let page = include_str!("../../../docs/BATCH.md").lines();
+    let mut shown = vec![];
+    for line in page.skip_while(|line| !line.starts_with("    offset")).skip(1).take_while(|line| !line.is_empty()) {
+        let columns: Vec<&str> = line.split("  ").map(str::trim).filter(|column| !column.is_empty()).collect();
+        assert_eq!(columns[0].parse(), Ok(shown.len()));
+        shown.extend(bytes_of(columns[1]));
+    }
+    let mut trace = [MainRow::ZERO; 2];
+    trace[1][ProcessorMainColumn::CLK] = 1;
+    let mut batch = Batch::new();
+    batch.set_trace(&trace).unwrap().set_sampled(&SampledChallenges([Element::from(2); Challenges::SAMPLE_COUNT]));
+    batch.set_differences(ClkJumpDiffs { op_stack: &[1, 0, 1], ram: &[], jump_stack: &[1] }).unwrap();
+    batch.set_claim(Claim { program_digest: [1, 2, 3, 4, 5], input: &[7, 5], output: &[12] }).unwrap();
+    let mut written = vec![0; 2153];
+    batch.write(&mut written).unwrap();
+    assert_eq!(shown, written);
+
+    let exchanged = [&shown[..2116], &shown[2125..2134], &shown[2116..2125], &shown[2134..]].concat();
+    assert_eq!(Batch::open(&exchanged), Err(Refusal::CommandOutOfOrder));
+    let exchanged = [&shown[..5], &shown[73..1490], &shown[46..73], &shown[5..46], &shown[1490..]].concat();
+    assert_eq!(Batch::open(&exchanged), Err(Refusal::CommandOutOfOrder));
+    for place in [46, 55, 64, 73, 1490, 1803, 2116, 2125, 2134, 2143, 2152] {
+        let twice = [&shown[..place], &shown[5..46], &shown[place..]].concat();
+        assert_eq!(Batch::open(&twice), Err(Refusal::CommandOutOfPlace));
+    }
 }

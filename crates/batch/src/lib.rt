@@ -1,7 +1,7 @@
-// Open: it decides on its answer first, and writes only then.
+// Open: it decides on its answer first, and writes only then, section by section.
 use batch_reader::OpenAnswer;
 use batch_reader::read;
-use batch_reader::unchecked::put_contents;
+use batch_reader::unchecked::put_section;
 use refusal::Refusal;
 ghost use mathlib.Core.Path.{_≡_};
 ghost use lib.ListN.{length};
@@ -10,6 +10,9 @@ ghost use Rattle.batch.specs.Open.{rightLengths, openAnswer, openSlice};
 
 // Longer batches are turned away unread.
 pub const MAX_LEN: usize = 16384;
+
+// Where 01 ends.
+const BEHIND_ROWS: usize = 5;
 
 fn right_lengths(
     trace: usize,
@@ -90,14 +93,14 @@ pub fn open(
     match answer {
         OpenAnswer::Refused(refusal) => OpenAnswer::Refused(refusal),
         OpenAnswer::Opened(counts) => {
-            put_contents(batch, batch_commands::ROW, trace);
-            put_contents(batch, batch_commands::OP_STACK, op_stack);
-            put_contents(batch, batch_commands::RAM, ram);
-            put_contents(batch, batch_commands::JUMP_STACK, jump_stack);
-            put_contents(batch, batch_commands::SAMPLED, sampled);
-            put_contents(batch, batch_commands::DIGEST, digest);
-            put_contents(batch, batch_commands::INPUT, input);
-            put_contents(batch, batch_commands::OUTPUT, output);
+            let at = put_section(batch, BEHIND_ROWS, batch_commands::DIGEST, digest);
+            let at = put_section(batch, at, batch_commands::INPUT, input);
+            let at = put_section(batch, at, batch_commands::OUTPUT, output);
+            let at = put_section(batch, at, batch_commands::SAMPLED, sampled);
+            let at = put_section(batch, at, batch_commands::ROW, trace);
+            let at = put_section(batch, at, batch_commands::OP_STACK, op_stack);
+            let at = put_section(batch, at, batch_commands::RAM, ram);
+            put_section(batch, at, batch_commands::JUMP_STACK, jump_stack);
             OpenAnswer::Opened(counts)
         }
     }

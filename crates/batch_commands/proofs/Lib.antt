@@ -1,2 +1,4 @@
--- Laws on heads.
+-- Laws on tables, heads and layouts.
+pub mod Tables
 pub mod Heads
+pub mod Laid

@@ -1,4 +1,4 @@
--- What is wrong with a command, and what stands at a place.
+-- What is wrong with a command after the commands that were seen, and what stands at a place.
 use mathlib.Core.Bool.{Bool, cond, not, _&&_, _||_}
 use mathlib.Core.List.{List, [], _∷_}
 use Prim.Native.Nat.{ℕ, _-_}
@@ -7,11 +7,12 @@ use lib.ListN.{length, take, getD}
 use Rattle.field_base.specs.Words.{allBelow}
 use Rattle.refusal.specs.declared.Answer.{Answer}
 use Rattle.refusal.specs.declared.Answer.the-variants.{Done, Refused}
-use Rattle.refusal.specs.declared.Refusal.the-variants.{UnknownCommand, BatchCutOff, CommandOutOfPlace, RowCount, WordNotBelowP}
+use Rattle.refusal.specs.declared.Refusal.the-variants.{UnknownCommand, BatchCutOff, CommandOutOfPlace, CommandOutOfOrder, RowCount, WordNotBelowP}
+use Rattle.batch_commands.specs.declared.Seen.{Seen}
 use Rattle.batch_commands.specs.declared.Head.{Head}
 use Rattle.batch_commands.specs.declared.Head.the-variants.{Unknown, CutOff, Whole}
 use Rattle.batch_words.specs.Words.{number, words}
-use Rattle.batch_commands.specs.Format.{END, TRACE-ROWS, ROW, SAMPLED, DIGEST, width, wordsIn, MAX-ROWS, MAX-DIFFERENCES, MAX-WORDS}
+use Rattle.batch_commands.specs.Format.{END, TRACE-ROWS, ROW, SAMPLED, DIGEST, width, wordsIn, rank, key, MAX-ROWS, MAX-DIFFERENCES, MAX-WORDS}
 
 -- how often a command may stand: "06 and 07 once each", 01 too, and as many rows as 01 announced
 abbrev pub limit : ℕ → ℕ → ℕ
@@ -32,22 +33,28 @@ outOfPlace rows came code left =
 abbrev pub wrongRowCount : ℕ → List ℕ → Bool
 wrongRowCount code operand = eqb code TRACE-ROWS && not (leb 1 (number operand) && leb (number operand) MAX-ROWS)
 
--- "9 (also past a count), 3, 2", where `bytes` begins with the operand
-unfoldable pub judged : ℕ → List ℕ → ℕ → List ℕ → Answer
-unfolding number words allBelow
-judged rows came code bytes =
-    cond (outOfPlace rows came code (length bytes - width code)) (Refused CommandOutOfPlace)
+-- Document 02, One: "a command within its count that follows one belonging behind it, or a difference below the one before it in its list".
+-- `seen` has the highest rank so far; a command of that rank follows the one before it in its list, whose key is the last seen.
+abbrev pub outOfOrder : Seen → ℕ → List ℕ → Bool
+outOfOrder seen code operand = ltb (rank code) (seen .rank) || (eqb (rank code) (seen .rank) && ltb (key code operand) (seen .key))
+
+-- "9 (also past a count), 3, 2", and 10 "after 9 and before 3", where `bytes` begins with the operand
+unfoldable pub judged : Seen → ℕ → List ℕ → Answer
+unfolding number words allBelow key
+judged seen code bytes =
+    cond (outOfPlace (seen .rows) (seen .came) code (length bytes - width code)) (Refused CommandOutOfPlace)
+    (cond (outOfOrder seen code bytes) (Refused CommandOutOfOrder)
     (cond (wrongRowCount code (take (width code) bytes)) (Refused RowCount)
     (cond (not (allBelow (wordsIn code bytes))) (Refused WordNotBelowP)
-    Done))
+    Done)))
 
 -- "left to right, per command: 7, 8, 9 (also past a count), 3, 2"
-unfoldable pub fault : ℕ → List ℕ → ℕ → List ℕ → Answer
+unfoldable pub fault : Seen → ℕ → List ℕ → Answer
 unfolding judged
-fault rows came code bytes =
+fault seen code bytes =
     cond (ltb 9 code) (Refused UnknownCommand)
     (cond (ltb (length bytes) (width code)) (Refused BatchCutOff)
-    (judged rows came code bytes))
+    (judged seen code bytes))
 
 -- what the bytes from a place on begin with
 abbrev pub headOf : List ℕ → Head

@@ -1,10 +1,10 @@
 -- Document 01's table of commands. "Commands of one byte (hexadecimal), operands of fixed width, little-endian".
-use mathlib.Core.Bool.{cond}
-use mathlib.Core.List.{List, [], _∷_}
-use Prim.Native.Nat.{ℕ, _/_}
+use mathlib.Core.Bool.{Bool, false, cond, _||_}
+use mathlib.Core.List.{List, [], _∷_, _++_}
+use Prim.Native.Nat.{ℕ, zero, suc, _/_}
 use lib.Dec.{eqb}
-use lib.ListN.{getD}
-use Rattle.batch_words.specs.Words.{words}
+use lib.ListN.{take, getD}
+use Rattle.batch_words.specs.Words.{number, words}
 
 -- "01 trace rows, 4 bytes, 1–32; 02 a row, 312 bytes; 03, 04, 05 a difference for op stack, RAM, jump stack, 8; 06 the sampled challenges, 1,416;
 -- 07 program digest, 40; 08 input word, 8; 09 output word, 8; 00 end."
@@ -59,3 +59,47 @@ wordsIn code operand = words (width code / 8) operand
 -- those of a command of the wanted kind
 abbrev pub wordsFor : ℕ → ℕ → List ℕ → List ℕ
 wordsFor wanted code operand = cond (eqb code wanted) (wordsIn code operand) []
+
+-- Document 02, One: "a batch runs 01, 07, all 08, all 09, 06, all rows, then all 03, all 04, all 05, .. then 00": a line for each place, with the commands that belong there
+abbrev pub order : List (List ℕ)
+order =
+    (TRACE-ROWS ∷ [])
+    ∷ (DIGEST ∷ [])
+    ∷ (INPUT ∷ [])
+    ∷ (OUTPUT ∷ [])
+    ∷ (SAMPLED ∷ [])
+    ∷ (ROW ∷ [])
+    ∷ (OP-STACK ∷ [])
+    ∷ (RAM ∷ [])
+    ∷ (JUMP-STACK ∷ [])
+    ∷ (END ∷ [])
+    ∷ []
+
+abbrev pub isIn : ℕ → List ℕ → Bool
+isIn code [] = false
+isIn code (other ∷ others) = eqb code other || isIn code others
+
+abbrev pub lineOf : ℕ → List (List ℕ) → ℕ
+lineOf code [] = zero
+lineOf code (line ∷ lines) = cond (isIn code line) zero (suc (lineOf code lines))
+
+-- a command's line in the order
+abbrev pub rank : ℕ → ℕ
+rank code = lineOf code order
+
+-- "each difference list not descending": the bytes at an operand's start whose number is not below that of the command before it in its list
+abbrev pub keyWidth : ℕ → ℕ
+keyWidth code = getD (0 ∷ 0 ∷ 0 ∷ 8 ∷ 8 ∷ 8 ∷ 0 ∷ 0 ∷ 0 ∷ 0 ∷ []) code 0
+
+unfoldable pub key : ℕ → List ℕ → ℕ
+unfolding number
+key code operand = number (take (keyWidth code) operand)
+
+pub record Command : Type 0 where
+  pub code : ℕ
+  pub operand : List ℕ
+
+-- commands as bytes
+unfoldable pub laidOut : List Command → List ℕ
+laidOut [] = []
+laidOut (command ∷ commands) = command .code ∷ command .operand ++ laidOut commands

@@ -29,6 +29,18 @@ pub const OUTPUT: usize = 9;
 // How many commands there are.
 pub const COUNT: usize = 10;
 
+// What counts for a command of those before it.
+pub struct Seen {
+    // The rows that 01 announced.
+    pub rows: usize,
+    // How often each command came.
+    pub came: [usize; COUNT],
+    // How far behind in the order they belong.
+    pub rank: usize,
+    // The last one's key.
+    pub key: u64,
+}
+
 // What stands at a place of a batch.
 pub enum Head {
     Unknown,

@@ -1,29 +1,70 @@
 // A command whose operand stands whole at a place of the batch.
+use crate::Seen;
 use batch_words::unchecked::half_at;
-use batch_words::unchecked::put_words;
+use batch_words::unchecked::word_at;
 use batch_words::unchecked::words_below;
 use refusal::Answer;
 use refusal::Refusal;
 ghost use mathlib.Core.Path.{_≡_};
 ghost use mathlib.Core.Bool.{cond};
-ghost use mathlib.Core.List.{_++_};
 ghost use Prim.Native.Nat.{_+_, _<_, _≤_};
 ghost use lib.Dec.{eqb};
 ghost use lib.ListN.{length, take, drop};
 ghost use Rattle.batch_words.specs.Words.{number};
-ghost use Rattle.batch_commands.specs.Format.{TRACE-ROWS, width, wordsFor};
-ghost use Rattle.batch_commands.specs.Fault.{limit, missing, outOfPlace, wrongRowCount, judged};
+ghost use Rattle.batch_commands.specs.Format.{TRACE-ROWS, width, rank, key};
+ghost use Rattle.batch_commands.specs.Fault.{limit, missing, outOfPlace, outOfOrder, wrongRowCount, judged};
 
 const MAX_ROWS: u32 = 32;
 
-// The width of each command's operand, in bytes.
-const WIDTHS: [usize; crate::COUNT] = [0, 4, 312, 8, 8, 8, 1416, 40, 8, 8];
-
+// The width of a command's operand, in bytes.
 pub fn width(code: usize) -> usize
     requires { ⌜ code < 10 ⌝ }
     ensures { λ r. ⌜ r ≡ width code ⌝ }
 {
-    WIDTHS[code]
+    match code {
+        crate::END => 0,
+        crate::TRACE_ROWS => 4,
+        crate::ROW => 312,
+        crate::OP_STACK => 8,
+        crate::RAM => 8,
+        crate::JUMP_STACK => 8,
+        crate::SAMPLED => 1416,
+        crate::DIGEST => 40,
+        crate::INPUT => 8,
+        _ => 8,
+    }
+}
+
+// A command's place in the order of a batch.
+pub fn rank(code: usize) -> usize
+    requires { ⌜ code < 10 ⌝ }
+    ensures { λ r. ⌜ r ≡ rank code ⌝ }
+{
+    match code {
+        crate::END => 9,
+        crate::TRACE_ROWS => 0,
+        crate::ROW => 5,
+        crate::OP_STACK => 6,
+        crate::RAM => 7,
+        crate::JUMP_STACK => 8,
+        crate::SAMPLED => 4,
+        crate::DIGEST => 1,
+        crate::INPUT => 2,
+        _ => 3,
+    }
+}
+
+// What must not descend from one command of a kind to the next: a difference, or nothing.
+pub fn key_at(batch: &[u8], at: usize, code: usize) -> u64
+    requires { ⌜ (code < 10) × (at + width code ≤ length (now batch)) ⌝ }
+    ensures { λ r. ⌜ r ≡ key code (drop at (now (batch .entry))) ⌝ }
+{
+    match code {
+        crate::OP_STACK => word_at(batch, at),
+        crate::RAM => word_at(batch, at),
+        crate::JUMP_STACK => word_at(batch, at),
+        _ => 0,
+    }
 }
 
 // How often a command may stand in a batch whose 01 announced `rows`.
@@ -31,8 +72,18 @@ fn limit(rows: usize, code: usize) -> usize
     requires { ⌜ code < 10 ⌝ }
     ensures { λ r. ⌜ r ≡ limit rows code ⌝ }
 {
-    let limits = [1, 1, rows, 128, 128, 128, 1, 1, 64, 64];
-    limits[code]
+    match code {
+        crate::END => 1,
+        crate::TRACE_ROWS => 1,
+        crate::ROW => rows,
+        crate::OP_STACK => 128,
+        crate::RAM => 128,
+        crate::JUMP_STACK => 128,
+        crate::SAMPLED => 1,
+        crate::DIGEST => 1,
+        crate::INPUT => 64,
+        _ => 64,
+    }
 }
 
 fn missing(rows: usize, came: [usize; crate::COUNT]) -> bool
@@ -68,6 +119,20 @@ fn out_of_place(rows: usize, came: [usize; crate::COUNT], code: usize, left: usi
     left != 0
 }
 
+fn out_of_order(batch: &[u8], at: usize, code: usize, seen: Seen) -> bool
+    requires { ⌜ (code < 10) × (at + width code ≤ length (now batch)) ⌝ }
+    ensures { λ r. ⌜ r ≡ outOfOrder seen code (drop at (now (batch .entry))) ⌝ }
+{
+    let rank = rank(code);
+    if rank < seen.rank {
+        return true;
+    }
+    if rank != seen.rank {
+        return false;
+    }
+    key_at(batch, at, code) < seen.key
+}
+
 fn wrong_row_count(batch: &[u8], at: usize, code: usize) -> bool
     requires { ⌜ (code < 10) × (at + width code ≤ length (now batch)) ⌝ }
     ensures { λ r. ⌜ r ≡ wrongRowCount code (take (width code) (drop at (now (batch .entry)))) ⌝ }
@@ -82,20 +147,18 @@ fn wrong_row_count(batch: &[u8], at: usize, code: usize) -> bool
     MAX_ROWS < rows
 }
 
-// What is wrong with a command, where 01 announced `rows` and each command came as often before as `came` says.
-pub fn judge(
-    batch: &[u8],
-    at: usize,
-    code: usize,
-    rows: usize,
-    came: [usize; crate::COUNT],
-) -> Answer
+// What is wrong with a command, after those that were seen.
+pub fn judge(batch: &[u8], at: usize, code: usize, seen: Seen) -> Answer
     requires { ⌜ (code < 10) × (at + width code ≤ length (now batch)) ⌝ }
-    ensures { λ r. ⌜ r ≡ judged rows came code (drop at (now (batch .entry))) ⌝ }
+    ensures { λ r. ⌜ r ≡ judged seen code (drop at (now (batch .entry))) ⌝ }
 {
     let width = width(code);
-    if out_of_place(rows, came, code, batch.len() - (at + width)) {
+    let came = seen.came;
+    if out_of_place(seen.rows, came, code, batch.len() - (at + width)) {
         return Answer::Refused(Refusal::CommandOutOfPlace);
+    }
+    if out_of_order(batch, at, code, seen) {
+        return Answer::Refused(Refusal::CommandOutOfOrder);
     }
     if wrong_row_count(batch, at, code) {
         return Answer::Refused(Refusal::RowCount);
@@ -116,26 +179,4 @@ pub fn announced(batch: &[u8], at: usize, code: usize, rows: usize) -> usize
     } else {
         rows
     }
-}
-
-// Where the command is of the wanted kind, its words go into the slice from `to` on. Answers the place past them.
-pub fn put_operand(
-    batch: &[u8],
-    at: usize,
-    code: usize,
-    wanted: usize,
-    slice: &mut [u64],
-    to: usize,
-) -> usize
-    requires { ⌜ (code < 10) × (at + width code ≤ length (now batch)) ⌝ }
-    requires { ⌜ to + length (wordsFor wanted code (drop at (now batch))) ≤ length (now slice) ⌝ }
-    ensures { λ r. ⌜ r ≡ to + length (wordsFor wanted code (drop at (now (batch .entry)))) ⌝ }
-    ensures { λ r. ⌜ now (slice .exit) ≡ take to (now (slice .entry)) ++ wordsFor wanted code (drop at (now (batch .entry))) ++ drop (to + length (wordsFor wanted code (drop at (now (batch .entry))))) (now (slice .entry)) ⌝ }
-{
-    if code != wanted {
-        return to;
-    }
-    let n = width(code) / 8;
-    put_words(batch, at, n, slice, to);
-    to + n
 }

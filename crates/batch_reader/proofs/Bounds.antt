@@ -10,12 +10,12 @@ use borrow.Author.Tests.{eqb-true, eq-eqb, ne-eqb, leb-true, not-false}
 use Rattle.field_base.proofs.Below.{and-true}
 use Rattle.refusal.specs.declared.Answer.the-variants.{Done}
 use Rattle.batch_words.specs.Words.{number}
-use Rattle.batch_commands.specs.Format.{TRACE-ROWS, width}
+use Rattle.batch_commands.specs.Format.{TRACE-ROWS, width, Command}
 use Rattle.batch_commands.specs.Fault.{limit, wrongRowCount, fault}
-use Rattle.batch_reader.specs.Commands.{Command, count, counts, announced}
+use Rattle.batch_reader.specs.Commands.{count, announced, seenIn}
 use Rattle.batch_reader.specs.Reading.{read, reading}
 use Rattle.batch_reader.proofs.Commands.{count-one, count-at}
-use Rattle.batch_reader.proofs.Faults.{Placed, placed}
+use Rattle.batch_reader.proofs.Passing.{Passes, passing}
 use Rattle.batch_reader.proofs.Readings.{at-start, kept}
 
 -- 01 stands first
@@ -44,19 +44,19 @@ module _ (code : ℕ) (bytes : List ℕ) where
   abbrev next : Command
   next = record { code = code; operand = take (width code) bytes }
 
-  first-is : Placed 0 (counts []) code bytes → code ≡ TRACE-ROWS
+  first-is : Passes (seenIn []) code bytes → code ≡ TRACE-ROWS
   unfolding count
   first-is p = eqb-true code TRACE-ROWS (not-false (eqb code TRACE-ROWS) (p .after-first))
 
   -- 01 comes once
-  later-is-not : (k : Command) (ks : List Command) → Bounded (k ∷ ks) → Placed (announced (k ∷ ks)) (counts (k ∷ ks)) code bytes → code ≡ TRACE-ROWS → ⊥
+  later-is-not : (k : Command) (ks : List Command) → Bounded (k ∷ ks) → Passes (seenIn (k ∷ ks)) code bytes → code ≡ TRACE-ROWS → ⊥
   unfolding count
   later-is-not k ks b p e =
       let u : cond (eqb (k .code) TRACE-ROWS) 1 0 + count TRACE-ROWS ks < 1 = rw e at (p .under) in
       let v : 1 + count TRACE-ROWS ks < 1 = rw (eq-eqb (k .code) TRACE-ROWS (b .first)) at u in
       omega arith
 
-  pub announced-next : (before : List Command) → Bounded before → Placed (announced before) (counts before) code bytes → announced (before ++ (next ∷ [])) ≡ cond (eqb code TRACE-ROWS) (number (take (width code) bytes)) (announced before)
+  pub announced-next : (before : List Command) → Bounded before → Passes (seenIn before) code bytes → announced (before ++ (next ∷ [])) ≡ cond (eqb code TRACE-ROWS) (number (take (width code) bytes)) (announced before)
   announced-next [] b p = rw (eq-eqb code TRACE-ROWS (first-is p))
   announced-next (k ∷ ks) b p = rw (ne-eqb code TRACE-ROWS (later-is-not k ks b p))
 
@@ -66,10 +66,10 @@ module _ (code : ℕ) (bytes : List ℕ) where
       let v = and-true (leb 1 n) (leb n 32) (not-false (leb 1 n && leb n 32) (rw e at w)) in
       rw e (leb-true n 32 (v .1))
 
-  bounded-first : fault 0 (counts []) code bytes ≡ Done → Bounded (next ∷ [])
+  bounded-first : fault (seenIn []) code bytes ≡ Done → Bounded (next ∷ [])
   unfolding count
   bounded-first d =
-      let p = placed 0 (counts []) code bytes d in
+      let p = passing (seenIn []) code bytes d in
       let e = first-is p in
       record {
         first = e;
@@ -77,13 +77,13 @@ module _ (code : ℕ) (bytes : List ℕ) where
         within = λ c l. alone (limit (number (take (width code) bytes)) c) (eqb code c) (λ q. let z : c ≡ TRACE-ROWS = sym (eqb-true code c q) ∙ e in rw z (omega arith));
       }
 
-  under-at : (before : List Command) (c : ℕ) → Placed (announced before) (counts before) code bytes → code ≡ c → count c before < limit (announced before) c
+  under-at : (before : List Command) (c : ℕ) → Passes (seenIn before) code bytes → code ≡ c → count c before < limit (announced before) c
   under-at before c p e = rw (sym e) (rw (count-at before code (p .known)) at (p .under))
 
-  pub bounded-next : (before : List Command) → fault (announced before) (counts before) code bytes ≡ Done → Bounded before → Bounded (before ++ (next ∷ []))
+  pub bounded-next : (before : List Command) → fault (seenIn before) code bytes ≡ Done → Bounded before → Bounded (before ++ (next ∷ []))
   bounded-next [] d b = bounded-first d
   bounded-next (k ∷ ks) d b =
-      let p = placed (announced (k ∷ ks)) (counts (k ∷ ks)) code bytes d in
+      let p = passing (seenIn (k ∷ ks)) code bytes d in
       record {
         first = b .first;
         few-rows = b .few-rows;

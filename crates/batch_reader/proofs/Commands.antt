@@ -1,16 +1,17 @@
 -- Counts and contents of commands that stand one after the other.
-use mathlib.Core.Path.{_≡_, refl, sym, ap, _∙_}
+use mathlib.Core.Path.{_≡_, refl, sym, _∙_}
 use mathlib.Core.Bool.{Bool, true, false, cond}
-use mathlib.Core.List.{List, [], _∷_, _++_, append-assoc, append-nil, map}
-use Prim.Native.Nat.{ℕ, zero, suc, _+_, _*_, _/_, _≤_, _<_}
+use mathlib.Core.List.{List, [], _∷_, _++_, append-assoc, map}
+use Prim.Native.Nat.{ℕ, zero, suc, max, _+_, _*_, _/_, _≤_, _<_}
 use native.Mathlib.Nat.{add-assoc, add-zero, zero-add, add-mul, not-suc-le-zero}
 use native.Mathlib.Omega.{arith}
 use lib.Dec.{eqb}
-use lib.ListN.{length, take, getD, set, length-append}
+use lib.ListN.{length, getD, set, length-append}
 use borrow.Author.Tests.{eqb-true, eq-eqb, ne-eqb}
-use Rattle.batch_commands.specs.Format.{width, wordsIn, wordsFor}
-use Rattle.batch_reader.specs.Commands.{Command, count, counts, contents}
-use Rattle.batch_words.proofs.Bytes.{length-words, words-within}
+use Rattle.batch_commands.specs.Format.{width, wordsIn, wordsFor, rank, key, Command}
+use Rattle.batch_reader.specs.Commands.{count, counts, contents, highestRank, lastKey}
+use Rattle.batch_commands.proofs.Tables.{from, map-at}
+use Rattle.batch_words.proofs.Bytes.{length-words}
 
 pub count-append : (code : ℕ) (ks js : List Command) → count code (ks ++ js) ≡ count code ks + count code js
 unfolding count
@@ -38,11 +39,6 @@ length-contents wanted (k ∷ ks) =
     length-append (wordsFor wanted (k .code) (k .operand)) (contents wanted ks)
     ∙ rw (length-for wanted (k .code) (k .operand) (eqb (k .code) wanted) refl, length-contents wanted ks, add-mul)
 
--- n numbers from a on
-abbrev from : ℕ → ℕ → List ℕ
-from a zero = []
-from a (suc n) = a ∷ from (suc a) n
-
 module _ (f g : ℕ → ℕ) where
   map-past : (a n : ℕ) → ((c : ℕ) → a ≤ c → g c ≡ f c) → map g (from a n) ≡ map f (from a n)
   map-past a zero h = refl
@@ -61,20 +57,15 @@ counts-one ks k l =
     map-but-one (λ c. count c ks) (λ c. count c (ks ++ (k ∷ []))) 0 10 (k .code) l (λ c h. count-one c ks k ∙ rw (ne-eqb (k .code) c (λ e. h (zero-add (k .code) ∙ e)), add-zero))
     ∙ rw (zero-add, count-one (k .code) ks k, eq-eqb (k .code) (k .code) refl)
 
-map-at : (f : ℕ → ℕ) (a n i : ℕ) → i < n → getD (map f (from a n)) i 0 ≡ f (a + i)
-map-at f a zero i l = absurd (not-suc-le-zero l)
-map-at f a (suc n) zero l = ap f (sym (add-zero a))
-map-at f a (suc n) (suc i) l =
-    let e : suc a + i ≡ a + suc i = omega arith in
-    map-at f (suc a) n i (omega arith) ∙ ap f e
-
 pub count-at : (ks : List Command) (code : ℕ) → code < 10 → getD (counts ks) code 0 ≡ count code ks
 count-at ks code l = map-at (λ c. count c ks) 0 10 code l ∙ rw zero-add
 
--- the next command's words come behind those before
-pub contents-one : (wanted : ℕ) (ks : List Command) (code : ℕ) (bytes : List ℕ)
-    → contents wanted (ks ++ (record { code = code; operand = take (width code) bytes } ∷ [])) ≡ contents wanted ks ++ wordsFor wanted code bytes
-unfolding contents
-contents-one wanted ks code bytes =
-    contents-append wanted ks (record { code = code; operand = take (width code) bytes } ∷ [])
-    ∙ rw (append-nil (wordsFor wanted code (take (width code) bytes)), words-within (width code / 8) (width code) bytes (omega arith))
+pub highest-one : (ks : List Command) (k : Command) → highestRank (ks ++ (k ∷ [])) ≡ max (highestRank ks) (rank (k .code))
+unfolding highestRank
+highest-one [] k = omega arith
+highest-one (j ∷ ks) k = omega (arith, highest-one ks k)
+
+pub last-key : (before : ℕ) (ks : List Command) (k : Command) → lastKey before (ks ++ (k ∷ [])) ≡ key (k .code) (k .operand)
+unfolding lastKey
+last-key before [] k = refl
+last-key before (j ∷ ks) k = last-key (key (j .code) (j .operand)) ks k

@@ -1,57 +1,28 @@
 -- What the tests of a command say, in their order, and what a step makes of them.
 use mathlib.Core.Path.{_≡_, refl}
-use mathlib.Core.Bool.{Bool, true, false, cond, not, _&&_, _||_}
+use mathlib.Core.Bool.{Bool, true, false, cond}
 use mathlib.Core.List.{List, [], _∷_}
 use Prim.Native.Nat.{ℕ, _+_, _-_, _≤_, _<_}
 use native.Mathlib.Omega.{arith}
-use lib.Dec.{eqb, ltb, leb}
-use lib.ListN.{length, take, drop, getD}
-use borrow.Author.Tests.{ltb-false, leb-false, eqb-false}
+use lib.Dec.{eqb, ltb}
+use lib.ListN.{length, drop}
+use borrow.Author.Tests.{ltb-false, eqb-false}
 use Rattle.refusal.specs.declared.Answer.{Answer}
 use Rattle.refusal.specs.declared.Answer.the-variants as answer
 use Rattle.refusal.specs.declared.Answer.the-variants.{Done}
-use Rattle.refusal.specs.declared.Refusal.the-variants.{UnknownCommand, BatchCutOff, CommandOutOfPlace, RowCount}
-use Rattle.refusal.proofs.Answers.{or-false, past}
+use Rattle.refusal.specs.declared.Refusal.the-variants.{UnknownCommand, BatchCutOff}
 use Rattle.batch_commands.specs.declared.Head.the-variants.{Unknown, CutOff, Whole}
-use Rattle.batch_commands.specs.Format.{END, TRACE-ROWS, width}
-use Rattle.batch_commands.specs.Fault.{limit, missing, outOfPlace, wrongRowCount, judged, fault, headOf}
+use Rattle.batch_commands.specs.Format.{END, width, Command}
+use Rattle.batch_commands.specs.Fault.{judged, fault, headOf}
 use Rattle.batch_commands.proofs.Heads.{headBy}
 use Rattle.batch_reader.specs.declared.OpenAnswer.{OpenAnswer}
 use Rattle.batch_reader.specs.declared.OpenAnswer.the-variants.{Opened, Refused}
-use Rattle.batch_reader.specs.declared.Seen.{Seen}
+use Rattle.batch_commands.specs.declared.Seen.{Seen}
 use Rattle.batch_reader.specs.declared.Step.the-variants.{Stop, Next}
-use Rattle.batch_reader.specs.Commands.{Command, counts}
+use Rattle.batch_reader.specs.Commands.{counts}
 use Rattle.batch_reader.specs.Reading.{Reading, read, unless}
 use Rattle.batch_reader.specs.Answers.{countsIn, answerOf}
 use Rattle.batch_reader.specs.Steps.{stepBy, stepOf}
-
-pub record Placed (rows : ℕ) (came : List ℕ) (code : ℕ) (bytes : List ℕ) : Type 0 where
-  pub known : code < 10
-  pub whole : width code ≤ length bytes
-  pub after-first : (eqb (getD came TRACE-ROWS 0) 0 && not (eqb code TRACE-ROWS)) ≡ false
-  pub under : getD came code 0 < limit rows code
-  pub row-count : wrongRowCount code (take (width code) bytes) ≡ false
-
--- what a command without a fault passed
-pub placed : (rows : ℕ) (came : List ℕ) (code : ℕ) (bytes : List ℕ) → fault rows came code bytes ≡ Done → Placed rows came code bytes
-unfolding fault judged
-placed rows came code bytes e =
-    let a = past (ltb 9 code) UnknownCommand _ e in
-    let b = past (ltb (length bytes) (width code)) BatchCutOff _ (a .1) in
-    let c = past (outOfPlace rows came code (length bytes - width code)) CommandOutOfPlace _ (b .1) in
-    let d = past (wrongRowCount code (take (width code) bytes)) RowCount _ (c .1) in
-    let first = eqb (getD came TRACE-ROWS 0) 0 && not (eqb code TRACE-ROWS) in
-    let over = leb (limit rows code) (getD came code 0) in
-    let p = or-false (first || over) (eqb code END && (missing rows came || not (eqb (length bytes - width code) 0))) (c .0) in
-    let q = or-false first over (p .0) in
-    let known = ltb-false 9 code (a .0) in
-    record {
-      known = omega arith;
-      whole = ltb-false (length bytes) (width code) (b .0);
-      after-first = q .0;
-      under = leb-false (limit rows code) (getD came code 0) (q .1);
-      row-count = d .0;
-    }
 
 unknown-by : (unknown short : Bool) (code : ℕ) → headBy unknown short code ≡ Unknown → unknown ≡ true
 unknown-by true short code e = refl
@@ -81,7 +52,7 @@ module _ (seen : Seen) where
   cut-off-step (code ∷ bytes) e = let h = cut-off-by (ltb 9 code) (ltb (length bytes) (width code)) code e in rw (h .0, h .1)
 
   pub whole-step : (bytes : List ℕ) (k : ℕ) → headOf bytes ≡ Whole k
-      → (k < 10) × (1 + width k ≤ length bytes) × (stepOf seen bytes ≡ stepBy (judged (seen .rows) (seen .came) k (drop 1 bytes)) k (seen .came))
+      → (k < 10) × (1 + width k ≤ length bytes) × (stepOf seen bytes ≡ stepBy (judged seen k (drop 1 bytes)) k (seen .came))
   unfolding fault
   whole-step [] k e = let z : _≡_ {A = ℕ} 0 1 = cc in (omega arith, omega arith, cc)
   whole-step (code ∷ bytes) k e =

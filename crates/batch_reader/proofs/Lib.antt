@@ -1,8 +1,11 @@
 -- Laws on what a batch holds and how it is read.
 pub mod Commands
+pub mod Passing
 pub mod Faults
 pub mod Readings
-pub mod Filling
+pub mod Ordered
 pub mod Bounds
 pub mod Reached
 pub mod Calling
+pub mod LaidOut
+pub mod Sections

@@ -7,23 +7,22 @@ use native.Mathlib.Omega.{arith}
 use lib.ListN.{length, drop, getD, length-drop}
 use lib.Seq.{drop-cons}
 use Rattle.refusal.specs.declared.Answer.the-variants.{Done}
-use Rattle.batch_commands.specs.Format.{END, width}
+use Rattle.batch_commands.specs.Format.{END, width, Command, rank, key}
 use Rattle.batch_commands.specs.Fault.{fault}
+use Rattle.batch_commands.proofs.Tables.{key-within}
 use Rattle.batch_reader.specs.declared.OpenAnswer.{OpenAnswer}
-use Rattle.batch_reader.specs.declared.Seen.{Seen}
+use Rattle.batch_commands.specs.declared.Seen.{Seen}
 use Rattle.batch_reader.specs.declared.Step.the-variants.{Stop, Next}
-use Rattle.batch_reader.specs.Commands.{Command, count, counts, announced}
+use Rattle.batch_reader.specs.Commands.{count, counts, announced, highestRank, lastKey, seenIn}
 use Rattle.batch_reader.specs.Reading.{readFrom, reading}
 use Rattle.batch_reader.specs.Answers.{answerOf}
 use Rattle.batch_reader.specs.Steps.{seenNothing, seenPast, stepBy, stepOf}
-use Rattle.batch_reader.proofs.Commands.{counts-one, count-at}
-use Rattle.batch_reader.proofs.Faults.{Placed, placed, stopped, went}
+use Rattle.batch_reader.proofs.Commands.{counts-one, count-at, highest-one, last-key}
+use Rattle.batch_reader.proofs.Passing.{Passes, passing}
+use Rattle.batch_reader.proofs.Faults.{stopped, went}
+use Rattle.batch_reader.proofs.Ordered.{not-before}
 use Rattle.batch_reader.proofs.Readings.{commandAt, faultAt, pastAt, Along, at-start, nothing-left, goes-on}
 use Rattle.batch_reader.proofs.Bounds.{Bounded, none-bounded, announced-next, bounded-next, count-small}
-
--- what is remembered of the commands
-abbrev seenIn : List Command → Seen
-seenIn ks = record { rows = announced ks; came = counts ks }
 
 pub record Reached (batch : List ℕ) (seen : Seen) (at : ℕ) : Type 0 where
   pub before : List Command
@@ -32,7 +31,7 @@ pub record Reached (batch : List ℕ) (seen : Seen) (at : ℕ) : Type 0 where
   pub seen-is : seen ≡ seenIn before
 
 pub nothing-read : (batch : List ℕ) → Reached batch seenNothing 0
-unfolding count
+unfolding count highestRank lastKey
 nothing-read batch = record { before = []; along = at-start batch; bounded = none-bounded; seen-is = refl }
 
 -- a step that stops answers what the definition does
@@ -42,7 +41,7 @@ stops-at fuel before [] decided h e = rw (nothing-left fuel before) (cc)
 stops-at zero before (code ∷ bytes) decided h e =
     let none : ⊥ = omega arith in
     absurd none
-stops-at (suc n) before (code ∷ bytes) decided h e = stopped (fault (announced before) (counts before) code bytes) code before _ decided e
+stops-at (suc n) before (code ∷ bytes) decided h e = stopped (fault (seenIn before) code bytes) code before _ decided e
 
 next-some : (seen : Seen) (bytes : List ℕ) (k : ℕ) → stepOf seen bytes ≡ Next k → 0 < length bytes
 next-some seen [] k e = let z : _≡_ {A = ℕ} 0 1 = cc in omega arith
@@ -65,11 +64,11 @@ module _ (batch : List ℕ) (seen : Seen) (at : ℕ) (r : Reached batch seen at)
     -- the step is by the fault that the definition finds
     on : (faultAt batch at (r .before) ≡ Done) × (code ≡ k) × (code ≡ END → ⊥)
     on =
-        let e : stepOf seen (drop at batch) ≡ stepBy (fault (seen .rows) (seen .came) code bytes) code (seen .came) = rw (drop-cons batch at 0 here, add-one) in
+        let e : stepOf seen (drop at batch) ≡ stepBy (fault seen code bytes) code (seen .came) = rw (drop-cons batch at 0 here, add-one) in
         went (faultAt batch at (r .before)) code k (counts (r .before)) (rw (r .seen-is) at (sym e ∙ next))
 
-    passed : Placed (announced (r .before)) (counts (r .before)) code bytes
-    passed = placed (announced (r .before)) (counts (r .before)) code bytes (on .0)
+    passed : Passes (seenIn (r .before)) code bytes
+    passed = passing (seenIn (r .before)) code bytes (on .0)
 
     pub known : k < 10
     known = rw (sym (on .1)) (passed .known)
@@ -87,7 +86,10 @@ module _ (batch : List ℕ) (seen : Seen) (at : ℕ) (r : Reached batch seen at)
     seen-next =
         let n : seenPast seen code bytes .rows ≡ announced (r .before ++ (commandAt batch at ∷ [])) = rw (r .seen-is) (sym (announced-next code bytes (r .before) (r .bounded) passed)) in
         let m : seenPast seen code bytes .came ≡ counts (r .before ++ (commandAt batch at ∷ [])) = rw (came-at, r .seen-is) (sym (counts-one (r .before) (commandAt batch at) (passed .known))) in
-        λ i. record { rows = n i; came = m i }
+        let b = not-before (highestRank (r .before)) (lastKey 0 (r .before)) (rank code) (key code bytes) (passed .in-order) in
+        let k : seenPast seen code bytes .rank ≡ highestRank (r .before ++ (commandAt batch at ∷ [])) = omega (arith, b .0, highest-one (r .before) (commandAt batch at)) in
+        let l : seenPast seen code bytes .key ≡ lastKey 0 (r .before ++ (commandAt batch at ∷ [])) = sym (last-key 0 (r .before) (commandAt batch at) ∙ key-within code bytes (passed .known)) in
+        λ i. record { rows = n i; came = m i; rank = k i; key = l i }
 
     reached-past : Reached batch (seenPast seen code bytes) (pastAt batch at)
     reached-past =

@@ -1,20 +1,20 @@
 -- Reading one command at a place of the batch, and what holds of the commands that are read.
-use mathlib.Core.Path.{_≡_, refl, sym, _∙_}
+use mathlib.Core.Path.{_≡_, refl, _∙_}
 use mathlib.Core.Bool.{Bool, true, false, cond}
-use mathlib.Core.List.{List, [], _∷_, _++_, append-assoc, append-nil}
+use mathlib.Core.List.{List, [], _∷_, _++_}
 use Prim.Native.Nat.{ℕ, zero, suc, _+_, _-_, _≤_, _<_}
 use native.Mathlib.Numerals.{add-one}
 use native.Mathlib.Omega.{arith}
 use lib.Dec.{eqb}
-use lib.ListN.{length, take, drop, getD, drop-of-length-le}
+use lib.ListN.{length, take, drop, getD}
 use lib.Seq.{drop-cons, drop-drop}
-use borrow.Author.Tests.{eq-eqb, ne-eqb}
+use borrow.Author.Tests.{ne-eqb}
 use Rattle.refusal.specs.declared.Answer.{Answer}
 use Rattle.refusal.specs.declared.Answer.the-variants.{Done, Refused}
 use Rattle.refusal.specs.declared.Refusal.the-variants.{BatchCutOff}
-use Rattle.batch_commands.specs.Format.{END, width}
+use Rattle.batch_commands.specs.Format.{END, width, Command}
 use Rattle.batch_commands.specs.Fault.{fault}
-use Rattle.batch_reader.specs.Commands.{Command, counts, announced}
+use Rattle.batch_reader.specs.Commands.{seenIn}
 use Rattle.batch_reader.specs.Reading.{Reading, read, refused, unless, readFrom, reading}
 
 -- the command that stands at a place
@@ -22,7 +22,7 @@ abbrev pub commandAt : List ℕ → ℕ → Command
 commandAt batch at = record { code = getD batch at 0; operand = take (width (getD batch at 0)) (drop (at + 1) batch) }
 
 abbrev pub faultAt : List ℕ → ℕ → List Command → Answer
-faultAt batch at before = fault (announced before) (counts before) (getD batch at 0) (drop (at + 1) batch)
+faultAt batch at before = fault (seenIn before) (getD batch at 0) (drop (at + 1) batch)
 
 abbrev pub pastAt : List ℕ → ℕ → ℕ
 pastAt batch at = at + 1 + width (getD batch at 0)
@@ -54,20 +54,14 @@ step (suc n) batch at before e here =
     rw (drop-cons batch at 0 here, e₁, add-one, drop-drop)
 
 -- what is read was not refused
-of-unless : (answer : Answer) (next : Reading) (ks : List Command) → unless answer next ≡ read ks → (answer ≡ Done) × (next ≡ read ks)
+pub of-unless : (answer : Answer) (next : Reading) (ks : List Command) → unless answer next ≡ read ks → (answer ≡ Done) × (next ≡ read ks)
 of-unless Done next ks e = (refl, e)
 of-unless (Refused r) next ks e = (cc, cc)
 
 module _ (batch : List ℕ) (at : ℕ) (before : List Command) (a : Along batch at before) where
-  pub at-end : length batch ≤ at → reading batch ≡ refused BatchCutOff
-  at-end h = a .rest ∙ rw (drop-of-length-le batch h) (nothing-left (a .fuel) before)
-
   module _ (here : at < length batch) where
     decides : reading batch ≡ unless (faultAt batch at before) (cond (eqb (getD batch at 0) END) (read before) (readFrom (a .fuel - 1) (before ++ (commandAt batch at ∷ [])) (drop (pastAt batch at) batch)))
     decides = a .rest ∙ step (a .fuel) batch at before (a .enough) here
-
-    pub ends : faultAt batch at before ≡ Done → getD batch at 0 ≡ END → reading batch ≡ read before
-    ends e q = decides ∙ rw (e, eq-eqb (getD batch at 0) END q)
 
     pub goes-on : faultAt batch at before ≡ Done → (getD batch at 0 ≡ END → ⊥) → Along batch (pastAt batch at) (before ++ (commandAt batch at ∷ []))
     goes-on e q =
@@ -77,12 +71,9 @@ module _ (batch : List ℕ) (at : ℕ) (before : List Command) (a : Along batch 
           rest = decides ∙ rw (e, ne-eqb (getD batch at 0) END q);
         }
 
-    pub passes : (ks : List Command) → reading batch ≡ read ks → faultAt batch at before ≡ Done
-    passes ks e = of-unless (faultAt batch at before) _ ks (sym decides ∙ e) .0
-
 -- what holds before the commands and is kept by each holds of all
 module _ (P : List Command → Type 0)
-    (keep : (before : List Command) (code : ℕ) (bytes : List ℕ) → fault (announced before) (counts before) code bytes ≡ Done → P before → P (before ++ (record { code = code; operand = take (width code) bytes } ∷ []))) where
+    (keep : (before : List Command) (code : ℕ) (bytes : List ℕ) → fault (seenIn before) code bytes ≡ Done → P before → P (before ++ (record { code = code; operand = take (width code) bytes } ∷ []))) where
   read-or : (last : Bool) (before ks : List Command) (next : Reading) → cond last (read before) next ≡ read ks → P before → (next ≡ read ks → P ks) → P ks
   read-or true before ks next e p h = let q : before ≡ ks = cc in rw q at p
   read-or false before ks next e p h = h e
@@ -92,10 +83,5 @@ module _ (P : List Command → Type 0)
   kept zero before bytes ks p e = let z : _≡_ {A = ℕ} 0 1 = cc in let none : ⊥ = omega arith in absurd none
   kept (suc n) before [] ks p e = let z : _≡_ {A = ℕ} 0 1 = cc in let none : ⊥ = omega arith in absurd none
   kept (suc n) before (code ∷ bytes) ks p e =
-      let passed = of-unless (fault (announced before) (counts before) code bytes) _ ks e in
+      let passed = of-unless (fault (seenIn before) code bytes) _ ks e in
       read-or (eqb code END) before ks _ (passed .1) p (kept n (before ++ (record { code = code; operand = take (width code) bytes } ∷ [])) (drop (width code) bytes) ks (keep before code bytes (passed .0) p))
-
--- the commands before a place are the first
-pub begins-with : (batch : List ℕ) (at : ℕ) (before ks : List Command) → Along batch at before → reading batch ≡ read ks → (after : List Command) × (ks ≡ before ++ after)
-begins-with batch at before ks a e =
-    kept (λ l. (after : List Command) × (l ≡ before ++ after)) (λ l code bytes q p. (p .0 ++ (record { code = code; operand = take (width code) bytes } ∷ []), rw (p .1, append-assoc))) (a .fuel) before (drop at batch) ks ([], sym (append-nil before)) (sym (a .rest) ∙ e)

@@ -1,14 +1,11 @@
 -- What a list of commands holds.
 use mathlib.Core.Bool.{cond}
 use mathlib.Core.List.{List, [], _∷_, _++_, map}
-use Prim.Native.Nat.{ℕ, _+_}
+use Prim.Native.Nat.{ℕ, _+_, max}
 use lib.Dec.{eqb}
 use Rattle.batch_words.specs.Words.{number, words}
-use Rattle.batch_commands.specs.Format.{wordsFor}
-
-pub record Command : Type 0 where
-  pub code : ℕ
-  pub operand : List ℕ
+use Rattle.batch_commands.specs.declared.Seen.{Seen}
+use Rattle.batch_commands.specs.Format.{rank, key, wordsFor, Command}
 
 -- how often a command stands there
 unfoldable pub count : ℕ → List Command → ℕ
@@ -29,3 +26,18 @@ contents wanted (command ∷ commands) = wordsFor wanted (command .code) (comman
 abbrev pub announced : List Command → ℕ
 announced [] = 0
 announced (command ∷ commands) = number (command .operand)
+
+-- how far behind they belong
+unfoldable pub highestRank : List Command → ℕ
+highestRank [] = 0
+highestRank (command ∷ commands) = max (rank (command .code)) (highestRank commands)
+
+-- the key of the last command, or `before`
+unfoldable pub lastKey : ℕ → List Command → ℕ
+unfolding key
+lastKey before [] = before
+lastKey before (command ∷ commands) = lastKey (key (command .code) (command .operand)) commands
+
+-- what counts for the command that follows
+abbrev pub seenIn : List Command → Seen
+seenIn commands = record { rows = announced commands; came = counts commands; rank = highestRank commands; key = lastKey 0 commands }

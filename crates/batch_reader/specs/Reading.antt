@@ -8,9 +8,9 @@ use Rattle.refusal.specs.declared.Answer.{Answer}
 use Rattle.refusal.specs.declared.Answer.the-variants.{Done, Refused}
 use Rattle.refusal.specs.declared.Refusal.{Refusal}
 use Rattle.refusal.specs.declared.Refusal.the-variants.{BatchCutOff}
-use Rattle.batch_commands.specs.Format.{END, width}
+use Rattle.batch_commands.specs.Format.{END, width, Command}
 use Rattle.batch_commands.specs.Fault.{fault}
-use Rattle.batch_reader.specs.Commands.{Command, count, counts, announced}
+use Rattle.batch_reader.specs.Commands.{count, highestRank, lastKey, seenIn}
 
 -- the commands before 00, or the first fault
 pub data Reading : Type 0 where
@@ -23,11 +23,11 @@ unless Done next = next
 
 -- what follows the commands `passed`; a command has at least one byte, so n at least the number of bytes is enough; "At the end 8 without 00"
 unfoldable pub readFrom : ℕ → List Command → List ℕ → Reading
-unfolding fault count
+unfolding fault count highestRank lastKey
 readFrom zero passed bytes = refused BatchCutOff
 readFrom (suc n) passed [] = refused BatchCutOff
 readFrom (suc n) passed (code ∷ bytes) =
-    unless (fault (announced passed) (counts passed) code bytes)
+    unless (fault (seenIn passed) code bytes)
     (cond (eqb code END) (read passed)
     (readFrom n (passed ++ (record { code = code; operand = take (width code) bytes } ∷ [])) (drop (width code) bytes)))
 

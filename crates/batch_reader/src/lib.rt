@@ -1,8 +1,11 @@
 // Reading a batch from left to right.
 use crate::opener::Opener;
 use batch_commands::Head;
+use batch_commands::Seen;
 use batch_commands::unchecked::announced;
 use batch_commands::unchecked::judge;
+use batch_commands::unchecked::key_at;
+use batch_commands::unchecked::rank;
 use refusal::Answer;
 use refusal::Refusal;
 ghost use mathlib.Core.Path.{_≡_};
@@ -31,14 +34,6 @@ pub enum OpenAnswer {
     Refused(Refusal),
 }
 
-// What the reader remembers of the commands before a place.
-pub(crate) struct Seen {
-    // The rows that 01 announced.
-    rows: usize,
-    // How often each command came.
-    came: [usize; batch_commands::COUNT],
-}
-
 // What the command at a place comes to.
 pub(crate) enum Step {
     Stop(OpenAnswer),
@@ -52,6 +47,8 @@ fn seen_nothing() -> Seen
     Seen {
         rows: 0,
         came: [0; batch_commands::COUNT],
+        rank: 0,
+        key: 0,
     }
 }
 
@@ -77,7 +74,7 @@ fn step_at(head: Head, batch: &[u8], at: usize, seen: Seen) -> Step
         Head::CutOff => Step::Stop(OpenAnswer::Refused(Refusal::BatchCutOff)),
         Head::Whole(code) => {
             let came = seen.came;
-            match judge(batch, at + 1, code, seen.rows, came) {
+            match judge(batch, at + 1, code, seen) {
                 Answer::Refused(refusal) => Step::Stop(OpenAnswer::Refused(refusal)),
                 Answer::Done => {
                     if code == batch_commands::END {
@@ -101,6 +98,8 @@ fn seen_past(batch: &[u8], at: usize, code: usize, seen: Seen) -> Seen
     Seen {
         rows: announced(batch, at + 1, code, seen.rows),
         came,
+        rank: rank(code),
+        key: key_at(batch, at + 1, code),
     }
 }
 

@@ -1,2 +1,3 @@
 -- What bytes say.
 pub mod Words
+pub mod Pasted

@@ -1,7 +1,7 @@
--- Document 01's number for each refusal.
+-- The number that documents 01 and 02 give each refusal.
 use Prim.Native.Nat.{ℕ}
 use Rattle.refusal.specs.declared.Refusal.{Refusal}
-use Rattle.refusal.specs.declared.Refusal.the-variants.{SliceLength, WordNotBelowP, RowCount, DifferenceTooLarge, ChunkLengthZero, ZeroDenominator, UnknownCommand, BatchCutOff, CommandOutOfPlace}
+use Rattle.refusal.specs.declared.Refusal.the-variants.{SliceLength, WordNotBelowP, RowCount, DifferenceTooLarge, ChunkLengthZero, ZeroDenominator, UnknownCommand, BatchCutOff, CommandOutOfPlace, CommandOutOfOrder}
 use Rattle.refusal.specs.declared.Answer.{Answer}
 use Rattle.refusal.specs.declared.Answer.the-variants.{Done, Refused}
 
@@ -15,6 +15,7 @@ numberOf ZeroDenominator = 6
 numberOf UnknownCommand = 7
 numberOf BatchCutOff = 8
 numberOf CommandOutOfPlace = 9
+numberOf CommandOutOfOrder = 10
 
 -- 0 for an operation that was done
 abbrev pub answerNumberOf : Answer → ℕ

@@ -15,6 +15,7 @@ pub enum Refusal {
     UnknownCommand,
     BatchCutOff,
     CommandOutOfPlace,
+    CommandOutOfOrder,
 }
 
 // The answer of an operation that has no value of its own.
@@ -23,7 +24,7 @@ pub enum Answer {
     Refused(Refusal),
 }
 
-// The refusal's number, 1 to 9.
+// The refusal's number, 1 to 10.
 pub fn number(refusal: Refusal) -> u32
     ensures { λ r. ⌜ r ≡ numberOf refusal ⌝ }
 {
@@ -37,6 +38,7 @@ pub fn number(refusal: Refusal) -> u32
         Refusal::UnknownCommand => 7,
         Refusal::BatchCutOff => 8,
         Refusal::CommandOutOfPlace => 9,
+        Refusal::CommandOutOfOrder => 10,
     }
 }
 

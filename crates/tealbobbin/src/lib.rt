@@ -6,6 +6,7 @@ use tealbobbin_answers::put_decoded;
 use tealbobbin_answers::put_element;
 use tealbobbin_answers::unchecked::put_counts;
 ghost use mathlib.Core.Path.{_≡_};
+ghost use lib.ListN.{length};
 ghost use Rattle.field_base.specs.Answers.{baseAdd, baseSub, baseMul, baseInverse};
 ghost use Rattle.field.specs.Answers.{elementAdd, elementSub, elementMul, elementScale, elementInverse};
 ghost use Rattle.refusal.specs.Number.{answerNumberOf};
@@ -18,6 +19,8 @@ ghost use Rattle.table_pad.specs.Pad.{padAnswer, padTable};
 ghost use Rattle.extend_answer.specs.Answer.{extendAnswer};
 ghost use Rattle.extend.specs.Extend.{extendAux, extendWork};
 ghost use Rattle.batch.specs.Open.{openNumber};
+ghost use Rattle.batch_writer.specs.Contents.{contentsOf};
+ghost use Rattle.batch_writer.specs.Write.{writeAnswer, writeBatch};
 ghost use Rattle.tealbobbin_answers.specs.Open.{slices, openInto, slicesAfter};
 ghost use Rattle.tealbobbin_answers.specs.Decode.{decodeNumberInto, decodeInto};
 ghost use Rattle.tealbobbin_answers.specs.Field.{baseNumberInto, baseInto, unaryNumber, unaryOut, binaryNumber, binaryOut};
@@ -260,4 +263,39 @@ pub extern "C" fn tealbobbin_open(
         output,
     );
     put_counts(answer, counts)
+}
+
+// Writes the batch of the given contents. The lists of differences come in any order.
+#[no_mangle]
+pub extern "C" fn tealbobbin_write(
+    trace: &[u64],
+    op_stack: &[u64],
+    ram: &[u64],
+    jump_stack: &[u64],
+    sampled: &[u64],
+    digest: &[u64],
+    input: &[u64],
+    output: &[u64],
+    batch: &mut [u8],
+) -> u32
+    ensures number { λ r. ⌜ r ≡ answerNumberOf (writeAnswer
+        (contentsOf (now (trace .entry)) (now («op_stack» .entry)) (now (ram .entry)) (now («jump_stack» .entry)) (now (sampled .entry))
+        (now (digest .entry)) (now (input .entry)) (now (output .entry)))
+        (length (now (batch .entry)))) ⌝ }
+    ensures written { λ r. ⌜ now (batch .exit) ≡ writeBatch
+        (contentsOf (now (trace .entry)) (now («op_stack» .entry)) (now (ram .entry)) (now («jump_stack» .entry)) (now (sampled .entry))
+        (now (digest .entry)) (now (input .entry)) (now (output .entry)))
+        (now (batch .entry)) ⌝ }
+{
+    refusal::answer_number(batch_writer::write(
+        trace,
+        op_stack,
+        ram,
+        jump_stack,
+        sampled,
+        digest,
+        input,
+        output,
+        batch,
+    ))
 }

@@ -10,8 +10,8 @@ use Rattle.refusal.specs.declared.Refusal.the-variants.{SliceLength}
 use Rattle.batch_reader.specs.declared.Counts.{Counts}
 use Rattle.batch_reader.specs.declared.OpenAnswer.{OpenAnswer}
 use Rattle.batch_reader.specs.declared.OpenAnswer.the-variants.{Opened, Refused}
-use Rattle.batch_commands.specs.Format.{ROW, OP-STACK, RAM, JUMP-STACK, INPUT, OUTPUT}
-use Rattle.batch_reader.specs.Commands.{Command, counts}
+use Rattle.batch_commands.specs.Format.{ROW, OP-STACK, RAM, JUMP-STACK, INPUT, OUTPUT, Command}
+use Rattle.batch_reader.specs.Commands.{counts}
 use Rattle.batch_reader.specs.Reading.{Reading, read, refused, reading}
 use Rattle.batch_reader.specs.Answers.{countsIn, answerOf}
 use Rattle.batch.specs.Open.{openAnswer}

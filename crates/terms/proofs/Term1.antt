@@ -3,7 +3,7 @@ use mathlib.Core.Path.{_≡_, refl}
 use mathlib.Core.Bool.{Bool, true, false, cond, not, _&&_, _||_}
 use mathlib.Core.List.{List, [], _∷_, _++_, List·Memᴰ·head, List·Memᴰ·tail}
 use Prim.Native.Nat.{ℕ, zero, suc, _*_, _-_}
-use lib.Dec.{T, eqb, ltb}
+use lib.Dec.{T, eqb, leb, ltb}
 use lib.ListN.{length, take, drop, getD, replicate}
 use borrow.Author.Tests.{eqb-true}
 use Rattle.algebra.specs.Modulus as base
@@ -11,7 +11,7 @@ use Rattle.algebra.specs.Modulus.{p}
 use Rattle.refusal.specs.Number.{numberOf, answerNumberOf, onDone}
 use Rattle.refusal.specs.Long.{isLong}
 use Rattle.refusal.specs.declared.Refusal.{Refusal}
-use Rattle.refusal.specs.declared.Refusal.the-variants.{SliceLength, WordNotBelowP, RowCount, DifferenceTooLarge, ChunkLengthZero, ZeroDenominator, UnknownCommand, BatchCutOff, CommandOutOfPlace}
+use Rattle.refusal.specs.declared.Refusal.the-variants.{SliceLength, WordNotBelowP, RowCount, DifferenceTooLarge, ChunkLengthZero, ZeroDenominator, UnknownCommand, BatchCutOff, CommandOutOfPlace, CommandOutOfOrder}
 use Rattle.refusal.specs.declared.Answer.{Answer}
 use Rattle.refusal.specs.declared.Answer.the-variants.{Done, Refused}
 use Rattle.field_base.specs.Words.{allBelow}
@@ -42,15 +42,19 @@ use Rattle.extend_answer.specs.Answer as extension
 use Rattle.extend_answer.specs.Answer.{extendAnswer}
 use Rattle.extend_answer.proofs.Accepted.{wrongRows, wrongWords}
 use Rattle.extend.specs.Extend.{extendAux, extendWork}
-use Rattle.batch_commands.specs.Format.{END, width, wordsIn}
-use Rattle.batch_commands.specs.Fault.{outOfPlace, wrongRowCount, judged, fault}
-use Rattle.batch_reader.specs.Commands.{Command, counts, announced}
+use Rattle.batch_commands.specs.declared.Seen.{Seen}
+use Rattle.batch_commands.specs.Format.{END, width, wordsIn, MAX-ROWS, Command}
+use Rattle.batch_commands.specs.Fault.{outOfPlace, outOfOrder, wrongRowCount, judged, fault}
+use Rattle.batch_reader.specs.Commands.{seenIn}
 use Rattle.batch_reader.specs.Reading.{Reading, read, unless, readFrom, reading}
 use Rattle.batch_reader.specs.Answers.{answerOf}
 use Rattle.batch_reader.specs.declared.OpenAnswer.{OpenAnswer}
 use Rattle.batch_reader.specs.declared.OpenAnswer.the-variants as open-answer
 use Rattle.batch.specs.Open as batch
 use Rattle.batch.specs.Open.{openNumber, openAnswer, openSlice}
+use Rattle.batch_writer.specs.Layout.{batchOf}
+use Rattle.batch_writer.specs.Write as writer
+use Rattle.batch_writer.specs.Write.{writeAnswer, writeBatch}
 use Rattle.tealbobbin_answers.specs.Field.{isWord, isElement, baseWritten, elementWritten, elementNumberInto, elementInto, unaryNumber, unaryOut}
 use Rattle.tealbobbin_answers.specs.Open.{Slices, openInto, slicesBy}
 use Rattle.terms.specs.Term1.{_∈_, Answers, OnWords, OnElement, OnElements, Scans, Term1}
@@ -169,19 +173,20 @@ abbrev readNumber : Reading → ℕ
 readNumber r = openNumber (answerOf r)
 
 -- the refusals of a batch's commands
-module _ (line : List ℕ) (t : T (every (stands line) (7 ∷ 8 ∷ 9 ∷ 3 ∷ 2 ∷ []))) where
+module _ (line : List ℕ) (t : T (every (stands line) (7 ∷ 8 ∷ 9 ∷ 10 ∷ 3 ∷ 2 ∷ []))) where
   cut-off : 8 ∈ 0 ∷ line
   cut-off =
-      let later = and-both (stands line 7) (every (stands line) (8 ∷ 9 ∷ 3 ∷ 2 ∷ [])) t .1 in
-      listed BatchCutOff (and-both (stands line 8) (every (stands line) (9 ∷ 3 ∷ 2 ∷ [])) later .0)
+      let later = and-both (stands line 7) (every (stands line) (8 ∷ 9 ∷ 10 ∷ 3 ∷ 2 ∷ [])) t .1 in
+      listed BatchCutOff (and-both (stands line 8) (every (stands line) (9 ∷ 10 ∷ 3 ∷ 2 ∷ [])) later .0)
 
-  command : (rows : ℕ) (came : List ℕ) (code : ℕ) (bytes : List ℕ) → answerNumberOf (fault rows came code bytes) ∈ 0 ∷ line
+  command : (seen : Seen) (code : ℕ) (bytes : List ℕ) → answerNumberOf (fault seen code bytes) ∈ 0 ∷ line
   unfolding fault judged
-  command rows came code bytes =
+  command seen code bytes =
       by-refusals
       ((ltb 9 code, UnknownCommand)
       ∷ (ltb (length bytes) (width code), BatchCutOff)
-      ∷ (outOfPlace rows came code (length bytes - width code), CommandOutOfPlace)
+      ∷ (outOfPlace (seen .rows) (seen .came) code (length bytes - width code), CommandOutOfPlace)
+      ∷ (outOfOrder seen code bytes, CommandOutOfOrder)
       ∷ (wrongRowCount code (take (width code) bytes), RowCount)
       ∷ (not (allBelow (wordsIn code bytes)), WordNotBelowP)
       ∷ []) t
@@ -197,8 +202,8 @@ module _ (line : List ℕ) (t : T (every (stands line) (7 ∷ 8 ∷ 9 ∷ 3 ∷ 
   batch-read (suc n) before (code ∷ bytes) =
       let next = before ++ (record { code = code; operand = take (width code) bytes } ∷ []) in
       let rest = readFrom n next (drop (width code) bytes) in
-      unless-refused (fault (announced before) (counts before) code bytes) (cond (eqb code END) (read before) rest)
-      (command (announced before) (counts before) code bytes)
+      unless-refused (fault (seenIn before) code bytes) (cond (eqb code END) (read before) rest)
+      (command (seenIn before) code bytes)
       (chosen readNumber (eqb code END) (read before) rest zero-listed (batch-read n next (drop (width code) bytes)))
 
 module _ (bytes : List ℕ) (lent : Slices) where
@@ -209,7 +214,7 @@ module _ (bytes : List ℕ) (lent : Slices) where
   open-kept (open-answer.Refused r) f = refused f refl
 
 pub term1 : Term1
-unfolding decodeAnswer challengesAnswer challengesRecord fillAnswer fillTable padAnswer padTable extendAnswer extendAux extendWork openInto openAnswer reading
+unfolding decodeAnswer challengesAnswer challengesRecord fillAnswer fillTable padAnswer padTable extendAnswer extendAux extendWork openInto openAnswer reading writeAnswer writeBatch
 term1 =
     record {
       base-add = λ a b. on-words (baseAdd a b) tt (base-checked (ltb a p && ltb b p) (base-answer.Word (base.plus a b)) tt zero-listed);
@@ -287,4 +292,12 @@ term1 =
           (by-tests open-answer.Refused openNumber (λ r. refl) ((ltb batch.MAX-BYTES (length bytes) || not lengths, SliceLength) ∷ []) tt
           (answerOf (reading bytes)) (batch-read _ tt (length bytes) [] bytes))
           (listed SliceLength tt));
+      write-batch = λ contents bytes.
+          on-done (writeAnswer contents (length bytes))
+          (by-refusals
+          ((not (writer.rightLengths contents (length bytes)), SliceLength)
+          ∷ (not (leb 1 (rows (contents .trace)) && leb (rows (contents .trace)) MAX-ROWS), RowCount)
+          ∷ (not (writer.allWordsBelow contents), WordNotBelowP)
+          ∷ []) tt)
+          (batchOf contents) bytes;
     }

@@ -1,10 +1,11 @@
--- Term 1: every call of a public operation ends with 0 or a number of the operation's line in document 01; after a refusal no lent slice has changed.
+-- Term 1: every call of a public operation ends with 0 or a number of the operation's line in documents 01 and 02; after a refusal no lent slice has changed.
 -- The operations are those that `tealbobbin` exports. That a call ends is part of each contract, and none has a `requires`; number and slices are the
 -- terms that the contracts give: any words, slices of any length.
 use mathlib.Core.Path.{_≡_}
 use mathlib.Core.Logic.{_≢_}
 use mathlib.Core.List.{List, [], _∷_, List·Memᴰ}
 use Prim.Native.Nat.{ℕ}
+use lib.ListN.{length}
 use Rattle.refusal.specs.Number.{answerNumberOf}
 use Rattle.field_base.specs.Answers.{baseAdd, baseSub, baseMul, baseInverse}
 use Rattle.field_base.specs.declared.BaseAnswer.{BaseAnswer}
@@ -20,6 +21,8 @@ use Rattle.table_pad.specs.Pad.{padAnswer, padTable}
 use Rattle.extend_answer.specs.Answer.{extendAnswer}
 use Rattle.extend.specs.Extend.{extendAux, extendWork}
 use Rattle.batch.specs.Open.{openNumber}
+use Rattle.batch_writer.specs.Contents.{Contents}
+use Rattle.batch_writer.specs.Write.{writeAnswer, writeBatch}
 use Rattle.tealbobbin_answers.specs.Field.{baseNumberInto, baseInto, unaryNumber, unaryOut, binaryNumber, binaryOut}
 use Rattle.tealbobbin_answers.specs.Decode.{decodeNumberInto, decodeInto}
 use Rattle.tealbobbin_answers.specs.Open.{Slices, openInto, slicesAfter}
@@ -49,7 +52,7 @@ abbrev pub Scans : List ℕ → ℕ → (List ℕ → List ℕ) → Type 0
 Scans line width scanned =
     (items : List ℕ) (chunk : ℕ) → Answers line (answerNumberOf (scanAnswer width items chunk)) (scanWords width items chunk (scanned items) ≡ items)
 
--- The lines are document 01's, "Refusals by operation". A field operation over slices also answers 1.
+-- The lines are document 01's, "Refusals by operation", with what document 02 adds. A field operation over slices also answers 1.
 pub record Term1 : Type 0 where
   pub base-add : (a b : ℕ) → OnWords (1 ∷ 2 ∷ []) (baseAdd a b)
   pub base-sub : (a b : ℕ) → OnWords (1 ∷ 2 ∷ []) (baseSub a b)
@@ -75,4 +78,6 @@ pub record Term1 : Type 0 where
       → Answers (1 ∷ 3 ∷ 5 ∷ 2 ∷ 6 ∷ []) (answerNumberOf (extendAnswer main challenges chunk aux work))
       ((extendAux main challenges chunk aux work ≡ aux) × (extendWork main challenges chunk aux work ≡ work))
   pub open-batch : (batch : List ℕ) (lent : Slices)
-      → Answers (1 ∷ 7 ∷ 8 ∷ 9 ∷ 3 ∷ 2 ∷ []) (openNumber (openInto batch lent)) (slicesAfter batch lent ≡ lent)
+      → Answers (1 ∷ 7 ∷ 8 ∷ 9 ∷ 10 ∷ 3 ∷ 2 ∷ []) (openNumber (openInto batch lent)) (slicesAfter batch lent ≡ lent)
+  pub write-batch : (contents : Contents) (batch : List ℕ)
+      → Answers (1 ∷ 3 ∷ 2 ∷ []) (answerNumberOf (writeAnswer contents (length batch))) (writeBatch contents batch ≡ batch)

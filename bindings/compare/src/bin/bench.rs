@@ -4,14 +4,13 @@
 use std::hint::black_box;
 use std::time::Instant;
 
-use compare::builder::Builder;
-use compare::plain::batch::LENGTHS;
+use compare::plain::batch::{self, LENGTHS};
 use compare::plain::batched::extend_batched;
 use compare::plain::extension::{column::*, AUX_WIDTH, WIDTH};
 use compare::plain::{self, Element};
 use compare::random::Random;
 use tealbobbin::abi;
-use tealbobbin::challenges::Challenges;
+use tealbobbin::challenges::{Challenges, SampledChallenges};
 use tealbobbin::field::P;
 use tealbobbin::processor::WORK_WIDTH;
 
@@ -160,21 +159,10 @@ fn usual_table(random: &mut Random, rows: usize) -> Vec<u64> {
     main
 }
 
-/// A batch with this many rows, differences of each kind, and words of input and of output.
-fn batch(random: &mut Random, rows: usize, differences: usize, words: usize) -> Vec<u8> {
-    let mut word = || random.word() % P;
-    let mut batch = Builder::default();
-    batch.rows(rows as u32).sampled(&std::array::from_fn(|_| word())).digest(&std::array::from_fn(|_| word()));
-    for _ in 0..rows {
-        batch.row(&std::array::from_fn(|_| word()));
-    }
-    for _ in 0..differences {
-        batch.op_stack(word()).ram(word()).jump_stack(word());
-    }
-    for _ in 0..words {
-        batch.input(word()).output(word());
-    }
-    batch.end().bytes()
+/// What a batch brings, with this many rows, differences of each kind, and words of input and of output.
+fn contents(random: &mut Random, rows: usize, differences: usize, words: usize) -> [Vec<u64>; 8] {
+    [rows * WIDTH, differences, differences, differences, SampledChallenges::WORDS, 5, words, words]
+        .map(|length| (0..length).map(|_| random.word() % P).collect())
 }
 
 /// The best time of `runs` runs, in nanoseconds a call.
@@ -320,8 +308,13 @@ fn main() {
         println!("{:<34} {best:>10.2}", format!("extend a row, 2^{power} rows"));
     }
 
-    for (rows, differences, words) in [(32, 128, 64), (13, 71, 33)] {
-        let bytes = batch(&mut random, rows, differences, words);
+    for (rows, differences, words) in [(32, 128, 64), (16, 64, 32)] {
+        let contents = contents(&mut random, rows, differences, words);
+        let slices = contents.each_ref().map(Vec::as_slice);
+        let length = batch::length(&slices);
+        let mut bytes = vec![0; length];
+        assert_eq!(batch::write(slices, &mut bytes), 0);
+
         type Open = fn(&[u8], [&mut [u64]; 8], &mut [u64]) -> u32;
         let opens = |open: Open| {
             let (bytes, mut lent) = (&bytes, LENGTHS.map(|length| vec![0; length]));
@@ -332,6 +325,17 @@ fn main() {
                 }
             }
         };
-        side_by_side(&format!("open a byte, {} bytes", bytes.len()), 200 * bytes.len(), opens(abi::open), opens(plain::batch::open));
+        side_by_side(&format!("open a byte, {length} bytes"), 200 * length, opens(abi::open), opens(batch::open));
+
+        type Write = fn([&[u64]; 8], &mut [u8]) -> u32;
+        let writes = |write: Write| {
+            let mut bytes = vec![0; length];
+            move || {
+                for _ in 0..200 {
+                    assert_eq!(write(black_box(slices), &mut bytes), 0);
+                }
+            }
+        };
+        side_by_side(&format!("write a byte, {length} bytes"), 200 * length, writes(abi::write), writes(batch::write));
     }
 }

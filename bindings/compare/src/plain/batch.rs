@@ -1,4 +1,4 @@
-//! A reader of batches as the papers describe them, command by command, into vectors.
+//! A reader and a writer of batches as the papers describe them, command by command.
 
 use tealbobbin::batch::{MAX_BYTES, MAX_DIFFERENCES, MAX_IO_WORDS, MAX_TRACE_ROWS};
 use tealbobbin::challenges::SampledChallenges;
@@ -21,13 +21,26 @@ pub const LENGTHS: [usize; 9] = [
 /// The operand's width in bytes, by command.
 const WIDTHS: [usize; 10] = [0, 4, 312, 8, 8, 8, 1416, 40, 8, 8];
 
+/// The commands in a batch's order.
+pub const ORDER: [u8; 10] = [1, 7, 8, 9, 6, 2, 3, 4, 5, 0];
+
+/// Each command's place in that order.
+const RANKS: [usize; 10] = {
+    let (mut ranks, mut rank) = ([0; 10], 0);
+    while rank < 10 {
+        ranks[ORDER[rank] as usize] = rank;
+        rank += 1;
+    }
+    ranks
+};
+
 const SAMPLED: usize = 4;
 const DIGEST: usize = 5;
 
 /// The words that a batch brings for each of the eight slices, or the number of its refusal.
 pub fn read(bytes: &[u8]) -> Result<[Vec<u64>; 8], u32> {
-    let mut brought: [Vec<u64>; 8] = Default::default();
-    let mut announced = None;
+    let [mut brought @ .., _] = LENGTHS.map(Vec::with_capacity);
+    let (mut announced, mut reached) = (None, 0);
     let mut rest = bytes;
     while let Some((&command, operands)) = rest.split_first() {
         let width = *WIDTHS.get(command as usize).ok_or(7u32)?;
@@ -46,14 +59,20 @@ pub fn read(bytes: &[u8]) -> Result<[Vec<u64>; 8], u32> {
             (_, Some(rows)) => {
                 let slice = command as usize - 2;
                 let most = if slice == 0 { rows * MAIN_WIDTH } else { LENGTHS[slice] };
-                if brought[slice].len() == most {
+                let before = &mut brought[slice];
+                if before.len() == most {
                     return Err(9);
                 }
                 let words = operand.chunks_exact(8).map(|word| u64::from_le_bytes(word.try_into().unwrap()));
+                let descends = matches!(command, 3..=5) && words.clone().next() < before.last().copied();
+                if RANKS[command as usize] < reached || descends {
+                    return Err(10);
+                }
                 if words.clone().any(|word| word >= P) {
                     return Err(2);
                 }
-                brought[slice].extend(words);
+                reached = RANKS[command as usize];
+                before.extend(words);
             }
         }
     }
@@ -77,4 +96,65 @@ pub fn open(bytes: &[u8], slices: [&mut [u64]; 8], counts: &mut [u64]) -> u32 {
         }
         Err(number) => number,
     }
+}
+
+/// The bytes of the batch with these slices' contents, whatever their lengths.
+pub fn length(slices: &[&[u64]; 8]) -> usize {
+    let [trace, op_stack, ram, jump_stack, _, _, input, output] = slices.map(|slice| slice.len());
+    1464 + 313 * (trace / MAIN_WIDTH) + 9 * (op_stack + ram + jump_stack + input + output)
+}
+
+/// A command with words for its operand; answers the bytes after it.
+fn put<'a>(bytes: &'a mut [u8], command: u8, words: &[u64]) -> &'a mut [u8] {
+    let (written, after) = bytes.split_at_mut(1 + 8 * words.len());
+    written[0] = command;
+    for (bytes, word) in written[1..].chunks_exact_mut(8).zip(words) {
+        bytes.copy_from_slice(&word.to_le_bytes());
+    }
+    after
+}
+
+/// The same command for each `width` words.
+fn put_each<'a>(bytes: &'a mut [u8], command: u8, words: &[u64], width: usize) -> &'a mut [u8] {
+    words.chunks_exact(width).fold(bytes, |bytes, words| put(bytes, command, words))
+}
+
+fn put_sorted<'a>(bytes: &'a mut [u8], command: u8, words: &[u64]) -> &'a mut [u8] {
+    let mut sorted = words.to_vec();
+    sorted.sort_unstable();
+    put_each(bytes, command, &sorted, 1)
+}
+
+/// Writes the batch with these slices' contents: 0, or the number of the refusal with nothing written.
+pub fn write(slices: [&[u64]; 8], bytes: &mut [u8]) -> u32 {
+    let [trace, op_stack, ram, jump_stack, sampled, digest, input, output] = slices;
+    let rows = trace.len() / MAIN_WIDTH;
+    if trace.len() % MAIN_WIDTH != 0
+        || [op_stack, ram, jump_stack].iter().any(|list| list.len() > MAX_DIFFERENCES)
+        || [input, output].iter().any(|words| words.len() > MAX_IO_WORDS)
+        || sampled.len() != SampledChallenges::WORDS
+        || digest.len() != 5
+        || bytes.len() != length(&slices)
+    {
+        return 1;
+    }
+    if rows == 0 || rows > MAX_TRACE_ROWS {
+        return 3;
+    }
+    if slices.iter().any(|slice| slice.iter().any(|&word| word >= P)) {
+        return 2;
+    }
+    let (announced, rest) = bytes.split_at_mut(5);
+    announced[0] = 1;
+    announced[1..].copy_from_slice(&(rows as u32).to_le_bytes());
+    let rest = put(rest, 7, digest);
+    let rest = put_each(rest, 8, input, 1);
+    let rest = put_each(rest, 9, output, 1);
+    let rest = put(rest, 6, sampled);
+    let rest = put_each(rest, 2, trace, MAIN_WIDTH);
+    let rest = put_sorted(rest, 3, op_stack);
+    let rest = put_sorted(rest, 4, ram);
+    let rest = put_sorted(rest, 5, jump_stack);
+    put(rest, 0, &[]);
+    0
 }

@@ -2,11 +2,13 @@
 use borrow.Author.Needs.{needs}
 use mathlib.Core.Path.{_≡_, refl, sym, _∙_}
 use mathlib.Core.Bool.{true}
+use lib.Dec.{lit<}
 use lib.ListN.{length}
 use borrow.Author.Tests.{lt-ltb, le-ltb, not-true, not-false}
 use Rattle.batch_reader.specs.declared.OpenAnswer.the-variants.{Opened}
 use Rattle.batch_reader.specs.Reading.{read, reading, commandsOf}
 use Rattle.batch_reader.specs.Answers.{answerOf}
+use Rattle.batch_reader.proofs.Sections.{behind-first}
 use Rattle.batch.specs.Open.{rightLengths, openAnswer, openSlice}
 use Rattle.batch.proofs.Room.{is-read, Room, room}
 use Rattle.batch.proofs.open.Statement.{statement}
@@ -34,6 +36,31 @@ read-through c = is-read (start (looked c .before .before) .args .batch .now) (c
 has-room : (c : tie.After-answer2) → let s = start (looked c .before .before) in Room (s .args .batch .now) (length (s .args .trace .now)) (length (s .args .op-stack .now)) (length (s .args .ram .now)) (length (s .args .jump-stack .now)) (length (s .args .sampled .now)) (length (s .args .digest .now)) (length (s .args .input .now)) (length (s .args .output .now))
 has-room c = let s = start (looked c .before .before) in room (s .args .batch .now) (length (s .args .trace .now)) (length (s .args .op-stack .now)) (length (s .args .ram .now)) (length (s .args .jump-stack .now)) (length (s .args .sampled .now)) (length (s .args .digest .now)) (length (s .args .input .now)) (length (s .args .output .now)) (read-through c) (right (looked c))
 
+-- the batch was read to its end before each section
+abbrev told : tie.After-put-section → tie.After-answer2
+told c = c .before .before .before
+
+abbrev told-2 : tie.After-put-section2 → tie.After-answer2
+told-2 c = told (c .before .before .before .before)
+
+abbrev told-3 : tie.After-put-section3 → tie.After-answer2
+told-3 c = told-2 (c .before .before .before .before)
+
+abbrev told-4 : tie.After-put-section4 → tie.After-answer2
+told-4 c = told-3 (c .before .before .before .before)
+
+abbrev told-5 : tie.After-put-section5 → tie.After-answer2
+told-5 c = told-4 (c .before .before .before .before)
+
+abbrev told-6 : tie.After-put-section6 → tie.After-answer2
+told-6 c = told-5 (c .before .before .before .before)
+
+abbrev told-7 : tie.After-put-section7 → tie.After-answer2
+told-7 c = told-6 (c .before .before .before .before)
+
+abbrev told-8 : tie.After-put-section8 → tie.After-answer2
+told-8 c = told-7 (c .before .before .before .before)
+
 returns : tie.Need-returns
 unfolding openAnswer openSlice
 returns c = (rw (lt-ltb _ _ (c .if1 .taken)), (refl, (refl, (refl, (refl, (refl, (refl, (refl, refl))))))))
@@ -54,29 +81,29 @@ enum-known-answer c = search needs
 enum-known-answer-2 : tie.Need-enum-known-answer-2
 enum-known-answer-2 c = search needs
 
-put-contents-requires : tie.Need-put-contents-requires
-put-contents-requires c κs = let told = c .before .before in (read-through told, has-room told .for-trace)
+put-section-requires : tie.Need-put-section-requires
+put-section-requires c κs = let t = c .before .before in (read-through t, ((lit< tt, lit< tt, sym (behind-first _ _ (read-through t))), has-room t .for-digest))
 
-put-contents-requires-2 : tie.Need-put-contents-requires-2
-put-contents-requires-2 c κs = let told = c .before .before .before .before .before .before in (read-through told, has-room told .for-op-stack)
+put-section-requires-2 : tie.Need-put-section-requires-2
+put-section-requires-2 c κs = let p = c .before .before .before in (read-through (told p), ((lit< tt, lit< tt, p .put-section .ensures .0), has-room (told p) .for-input))
 
-put-contents-requires-3 : tie.Need-put-contents-requires-3
-put-contents-requires-3 c κs = let told = c .before .before .before .before .before .before .before .before .before .before in (read-through told, has-room told .for-ram)
+put-section-requires-3 : tie.Need-put-section-requires-3
+put-section-requires-3 c κs = let p = c .before .before .before in (read-through (told-2 p), ((lit< tt, lit< tt, p .put-section2 .ensures .0), has-room (told-2 p) .for-output))
 
-put-contents-requires-4 : tie.Need-put-contents-requires-4
-put-contents-requires-4 c κs = let told = c .before .before .before .before .before .before .before .before .before .before .before .before .before .before in (read-through told, has-room told .for-jump-stack)
+put-section-requires-4 : tie.Need-put-section-requires-4
+put-section-requires-4 c κs = let p = c .before .before .before in (read-through (told-3 p), ((lit< tt, lit< tt, p .put-section3 .ensures .0), has-room (told-3 p) .for-sampled))
 
-put-contents-requires-5 : tie.Need-put-contents-requires-5
-put-contents-requires-5 c κs = let told = c .before .before .before .before .before .before .before .before .before .before .before .before .before .before .before .before .before .before in (read-through told, has-room told .for-sampled)
+put-section-requires-5 : tie.Need-put-section-requires-5
+put-section-requires-5 c κs = let p = c .before .before .before in (read-through (told-4 p), ((lit< tt, lit< tt, p .put-section4 .ensures .0), has-room (told-4 p) .for-trace))
 
-put-contents-requires-6 : tie.Need-put-contents-requires-6
-put-contents-requires-6 c κs = let told = c .before .before .before .before .before .before .before .before .before .before .before .before .before .before .before .before .before .before .before .before .before .before in (read-through told, has-room told .for-digest)
+put-section-requires-6 : tie.Need-put-section-requires-6
+put-section-requires-6 c κs = let p = c .before .before .before in (read-through (told-5 p), ((lit< tt, lit< tt, p .put-section5 .ensures .0), has-room (told-5 p) .for-op-stack))
 
-put-contents-requires-7 : tie.Need-put-contents-requires-7
-put-contents-requires-7 c κs = let told = c .before .before .before .before .before .before .before .before .before .before .before .before .before .before .before .before .before .before .before .before .before .before .before .before .before .before in (read-through told, has-room told .for-input)
+put-section-requires-7 : tie.Need-put-section-requires-7
+put-section-requires-7 c κs = let p = c .before .before .before in (read-through (told-6 p), ((lit< tt, lit< tt, p .put-section6 .ensures .0), has-room (told-6 p) .for-ram))
 
-put-contents-requires-8 : tie.Need-put-contents-requires-8
-put-contents-requires-8 c κs = let told = c .before .before .before .before .before .before .before .before .before .before .before .before .before .before .before .before .before .before .before .before .before .before .before .before .before .before .before .before .before .before in (read-through told, has-room told .for-output)
+put-section-requires-8 : tie.Need-put-section-requires-8
+put-section-requires-8 c κs = let p = c .before .before .before in (read-through (told-7 p), ((lit< tt, lit< tt, p .put-section7 .ensures .0), has-room (told-7 p) .for-jump-stack))
 
 returns-3 : tie.Need-returns-3
 unfolding openSlice
@@ -84,43 +111,59 @@ returns-3 c =
     let done = c .before .before .before in
     (sym (to-reading (done .before) ∙ sym (done .read .ensures) ∙ c .before .answer .given .1), (refl, (refl, (refl, (refl, (refl, (refl, (refl, refl))))))))
 
+abbrev put-8 : tie.After-slice-known16 → tie.After-put-section8
+put-8 c = c .before .before
+
+abbrev put-7 : tie.After-slice-known16 → tie.After-put-section7
+put-7 c = put-8 c .before .before .before .before
+
+abbrev put-6 : tie.After-slice-known16 → tie.After-put-section6
+put-6 c = put-7 c .before .before .before .before
+
+abbrev put-5 : tie.After-slice-known16 → tie.After-put-section5
+put-5 c = put-6 c .before .before .before .before
+
+abbrev put-4 : tie.After-slice-known16 → tie.After-put-section4
+put-4 c = put-5 c .before .before .before .before
+
+abbrev put-3 : tie.After-slice-known16 → tie.After-put-section3
+put-3 c = put-4 c .before .before .before .before
+
+abbrev put-2 : tie.After-slice-known16 → tie.After-put-section2
+put-2 c = put-3 c .before .before .before .before
+
+abbrev put-1 : tie.After-slice-known16 → tie.After-put-section
+put-1 c = put-2 c .before .before .before .before
+
 same-length : tie.Need-same-length
-same-length c = search needs
+same-length c = put-5 c .put-section5 .kept .1 .1 .1 .0
 
 same-length-2 : tie.Need-same-length-2
-same-length-2 c = search needs
+same-length-2 c = put-6 c .put-section6 .kept .1 .1 .1 .0
 
 same-length-3 : tie.Need-same-length-3
-same-length-3 c = search needs
+same-length-3 c = put-7 c .put-section7 .kept .1 .1 .1 .0
 
 same-length-4 : tie.Need-same-length-4
-same-length-4 c = search needs
+same-length-4 c = put-8 c .put-section8 .kept .1 .1 .1 .0
 
 same-length-5 : tie.Need-same-length-5
-same-length-5 c = search needs
+same-length-5 c = put-4 c .put-section4 .kept .1 .1 .1 .0
 
 same-length-6 : tie.Need-same-length-6
-same-length-6 c = search needs
+same-length-6 c = put-1 c .put-section .kept .1 .1 .1 .0
 
 same-length-7 : tie.Need-same-length-7
-same-length-7 c = search needs
+same-length-7 c = put-2 c .put-section2 .kept .1 .1 .1 .0
 
 same-length-8 : tie.Need-same-length-8
-same-length-8 c = search needs
+same-length-8 c = put-3 c .put-section3 .kept .1 .1 .1 .0
 
 returns-4 : tie.Need-returns-4
 unfolding openSlice
 returns-4 c =
-    let put8 = c .before .before in
-    let put7 = put8 .before .before .before .before in
-    let put6 = put7 .before .before .before .before in
-    let put5 = put6 .before .before .before .before in
-    let put4 = put5 .before .before .before .before in
-    let put3 = put4 .before .before .before .before in
-    let put2 = put3 .before .before .before .before in
-    let put1 = put2 .before .before .before .before in
-    let told = put1 .before .before .before in
-    (sym (to-reading (told .before .before .before) ∙ opened told), (put1 .put-contents .ensures, (put2 .put-contents2 .ensures, (put3 .put-contents3 .ensures, (put4 .put-contents4 .ensures, (put5 .put-contents5 .ensures, (put6 .put-contents6 .ensures, (put7 .put-contents7 .ensures, (put8 .put-contents8 .ensures)))))))))
+    let t = told-8 (put-8 c) in
+    (sym (to-reading (t .before .before .before) ∙ opened t), (put-5 c .put-section5 .ensures .1, (put-6 c .put-section6 .ensures .1, (put-7 c .put-section7 .ensures .1, (put-8 c .put-section8 .ensures .1, (put-4 c .put-section4 .ensures .1, (put-1 c .put-section .ensures .1, (put-2 c .put-section2 .ensures .1, (put-3 c .put-section3 .ensures .1)))))))))
 
 pub open-spec : {M : Type 1} → statement M
 open-spec =
@@ -132,14 +175,14 @@ open-spec =
     read-requires
     enum-known-answer
     enum-known-answer-2
-    put-contents-requires
-    put-contents-requires-2
-    put-contents-requires-3
-    put-contents-requires-4
-    put-contents-requires-5
-    put-contents-requires-6
-    put-contents-requires-7
-    put-contents-requires-8
+    put-section-requires
+    put-section-requires-2
+    put-section-requires-3
+    put-section-requires-4
+    put-section-requires-5
+    put-section-requires-6
+    put-section-requires-7
+    put-section-requires-8
     returns-3
     same-length
     same-length-2

@@ -47,7 +47,7 @@ use Rattle.batch_commands.specs.Format.{width}
 use Rattle.batch_commands.specs.Fault.{headOf}
 use Rattle.batch_commands.specs.declared.Head.{Head}
 use Rattle.batch_reader.specs.declared.OpenAnswer.{OpenAnswer}
-use Rattle.batch_reader.specs.declared.Seen.{Seen}
+use Rattle.batch_commands.specs.declared.Seen.{Seen}
 use Rattle.batch_reader.specs.declared.Step.{Step}
 use Rattle.batch_reader.specs.declared.Step.the-variants.{Stop, Next}
 use Rattle.batch_reader.specs.declared.opener.Opener.{Opener}
@@ -62,8 +62,8 @@ use Rattle.batch_commands.proofs.Head as Heads
 use Rattle.batch_commands.proofs.Head.Laws as Heads′
 use Rattle.batch_reader.proofs.OpenAnswer as Answers
 use Rattle.batch_reader.proofs.OpenAnswer.Laws as Answers′
-use Rattle.batch_reader.proofs.Seen as Seens
-use Rattle.batch_reader.proofs.Seen.Laws as Seens′
+use Rattle.batch_commands.proofs.Seen as Seens
+use Rattle.batch_commands.proofs.Seen.Laws as Seens′
 use Rattle.batch_reader.proofs.Step as Steps
 use Rattle.batch_reader.proofs.Step.Laws as Steps′
 use Rattle.batch_reader.proofs.opener.Opener.new as new

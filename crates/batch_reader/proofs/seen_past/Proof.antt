@@ -1,4 +1,4 @@
--- The command is counted, and 01 announces the rows.
+-- The command is counted, 01 announces the rows, and its place in the order and its key are remembered.
 use borrow.Author.Needs.{needs}
 use Rattle.batch_reader.proofs.seen_past.Statement.{statement}
 use Rattle.batch_reader.proofs.seen_past.Tie as tie
@@ -24,8 +24,17 @@ add-announced c = search needs
 announced-requires : tie.Need-announced-requires
 announced-requires c κs = search needs
 
+rank-requires : tie.Need-rank-requires
+rank-requires c κs = search needs
+
+add-key-at : tie.Need-add-key-at
+add-key-at c = search needs
+
+key-at-requires : tie.Need-key-at-requires
+key-at-requires c κs = search needs
+
 returns : tie.Need-returns
-returns c = rw (c .announced .ensures)
+returns c = rw (c .before .before .announced .ensures, c .before .rank .ensures, c .key-at .ensures)
 
 pub seen-past-spec : {M : Type 1} → statement M
 seen-past-spec =
@@ -38,4 +47,7 @@ seen-past-spec =
     array-write-came
     add-announced
     announced-requires
+    rank-requires
+    add-key-at
+    key-at-requires
     returns)

@@ -17,7 +17,7 @@ abbrev start : tie.After-head → tie.Start
 start c = c .before .before .before
 
 whole : (c : tie.After-head) → let args = start c .args in let k = c .head .given .0 .0 in
-    (k < 10) × (args .at + 1 + width k ≤ length (args .batch .now)) × (stepOf (args .seen) (drop (args .at) (args .batch .now)) ≡ stepBy (judged (args .seen .rows) (args .seen .came) k (drop (args .at + 1) (args .batch .now))) k (args .seen .came))
+    (k < 10) × (args .at + 1 + width k ≤ length (args .batch .now)) × (stepOf (args .seen) (drop (args .at) (args .batch .now)) ≡ stepBy (judged (args .seen) k (drop (args .at + 1) (args .batch .now))) k (args .seen .came))
 whole c =
     let args = start c .args in
     let w = whole-step (args .seen) (drop (args .at) (args .batch .now)) (c .head .given .0 .0) (sym (start c .pre) ∙ c .head .given .1) in

@@ -1,8 +1,8 @@
-//! Opening.
+//! Opening, and writing what was opened.
 
 use compare::builder::Builder;
-use compare::plain::batch::{self, LENGTHS};
-use compare::random::Random;
+use compare::plain::batch::{self, LENGTHS, ORDER};
+use compare::random::{Random, EDGES};
 use compare::tally::Tally;
 use tealbobbin::abi;
 use tealbobbin::batch::{MAX_BYTES, MAX_DIFFERENCES, MAX_IO_WORDS};
@@ -16,11 +16,22 @@ const LISTS: [(u8, usize); 5] =
 /// The nine slices in one row of words, each followed by a word that is lent to nobody.
 struct Opening<'a> {
     tally: Tally,
+    /// What opens, written again.
+    again: Tally,
     random: &'a mut Random,
     lengths: [usize; 9],
     before: Vec<u64>,
     ours: Vec<u64>,
     expected: Vec<u64>,
+}
+
+/// The slices that stand in the words.
+fn slices(mut words: &[u64], lengths: [usize; 9]) -> [&[u64]; 9] {
+    lengths.map(|length| {
+        let (slice, after) = words.split_at(length);
+        words = &after[1..];
+        slice
+    })
 }
 
 /// Calls with the slices that stand in the words.
@@ -36,7 +47,8 @@ fn call(open: impl Fn(&[u8], [&mut [u64]; 8], &mut [u64]) -> u32, bytes: &[u8], 
 
 impl Opening<'_> {
     fn new<'a>(name: &'static str, random: &'a mut Random) -> Opening<'a> {
-        let mut opening = Opening { tally: Tally::new(name), random, lengths: LENGTHS, before: vec![], ours: vec![], expected: vec![] };
+        let (tally, again) = (Tally::new(name), Tally::new("write, what opened"));
+        let mut opening = Opening { tally, again, random, lengths: LENGTHS, before: vec![], ours: vec![], expected: vec![] };
         opening.lend(LENGTHS);
         opening
     }
@@ -55,13 +67,28 @@ impl Opening<'_> {
         let got = call(abi::open, bytes, &mut self.ours, self.lengths);
         let shown: Vec<u64> = [bytes.len() as u64].into_iter().chain(bytes.iter().map(|&byte| byte as u64)).take(16).collect();
         self.tally.check(what, &shown, &self.before, (got, &self.ours), number, &self.expected);
+        if number == 0 && got == 0 && self.ours == self.expected {
+            self.write_again(what, &shown, bytes);
+        }
         if number == 0 || got != number || self.ours != self.before {
             self.lend(self.lengths);
         }
         number
     }
 
-    /// As above, where only one number can be meant.
+    /// The batch that was opened is the one that its contents are written as.
+    fn write_again(&mut self, what: &str, shown: &[u64], bytes: &[u8]) {
+        let [contents @ .., counts] = slices(&self.ours, self.lengths);
+        let [rows, op_stack, ram, jump_stack, input, output] = std::array::from_fn(|count| counts[count] as usize);
+        let brought = [rows * MAIN_WIDTH, op_stack, ram, jump_stack, LENGTHS[4], LENGTHS[5], input, output];
+        let contents = std::array::from_fn(|slice| &contents[slice][..brought[slice]]);
+        let before = vec![0xa5; bytes.len()];
+        let mut written = before.clone();
+        let got = abi::write(contents, &mut written);
+        self.again.check(what, shown, &before, (got, &written), 0, bytes);
+    }
+
+    /// As `check`, where only one number can be meant.
     fn expect(&mut self, what: &str, bytes: &[u8], number: u32) {
         let meant = self.check(what, bytes);
         if meant != number {
@@ -69,22 +96,22 @@ impl Opening<'_> {
         }
     }
 
-    /// As above, with these bytes after the commands.
+    /// As `expect`, with these bytes after the commands.
     fn after(&mut self, what: &str, commands: &Builder, bytes: &[u8], number: u32) {
         self.expect(what, commands.clone().raw(bytes).bytes().as_slice(), number);
     }
 }
 
-fn below(random: &mut Random, n: usize) -> usize {
+pub fn below(random: &mut Random, n: usize) -> usize {
     random.word() as usize % n
 }
 
-fn words(random: &mut Random, n: usize) -> Vec<u64> {
+pub fn words(random: &mut Random, n: usize) -> Vec<u64> {
     (0..n).map(|_| random.base()).collect()
 }
 
 /// A word that is not below p.
-fn bad(random: &mut Random) -> u64 {
+pub fn bad(random: &mut Random) -> u64 {
     [P, P + 1, u64::MAX, P + (random.word() >> 33)][below(random, 4)]
 }
 
@@ -94,10 +121,10 @@ fn shuffle(random: &mut Random, commands: &mut [Vec<u8>]) {
     }
 }
 
-/// A batch with these counts, its commands mixed between 01 and 00.
+/// A batch with these counts.
 fn whole(random: &mut Random, rows: usize, counts: [usize; 5]) -> Builder {
     let mut batch = Builder::default();
-    batch.command(6, &words(random, 177)).command(7, &words(random, 5));
+    batch.rows(rows as u32).command(6, &words(random, 177)).command(7, &words(random, 5));
     for _ in 0..rows {
         batch.command(2, &words(random, MAIN_WIDTH));
     }
@@ -106,9 +133,7 @@ fn whole(random: &mut Random, rows: usize, counts: [usize; 5]) -> Builder {
             batch.command(command, &[random.base()]);
         }
     }
-    shuffle(random, &mut batch.commands);
-    batch.rows(rows as u32).commands.rotate_right(1);
-    batch.end().clone()
+    batch.end().ordered().clone()
 }
 
 /// The same with as many of everything as there may be.
@@ -266,6 +291,57 @@ fn past_counts(opening: &mut Opening) {
     }
 }
 
+fn rank(command: &[u8]) -> usize {
+    ORDER.iter().position(|&other| other == command[0]).unwrap()
+}
+
+/// Every command moved to every place; one more of each list in every place; differences beside the one before, or far from it.
+fn orders(opening: &mut Opening) {
+    let batch = whole(opening.random, 2, [2; 5]);
+    let end = batch.commands.len() - 1;
+    for from in 1..end {
+        for to in 1..end {
+            let mut moved = batch.clone();
+            let command = moved.commands.remove(from);
+            moved.commands.insert(to, command);
+            if batch.commands[from][0] == batch.commands[to][0] {
+                opening.check("moved", &moved.bytes());
+            } else {
+                opening.expect("moved", &moved.bytes(), 10);
+            }
+        }
+    }
+    for (command, _) in LISTS {
+        for place in 1..=end {
+            let (before, after) = batch.commands.split_at(place);
+            for word in [0, P - 1, bad(opening.random)] {
+                let one = Builder::default().command(command, &[word]).clone();
+                let late = rank(&before[place - 1]) > rank(&one.commands[0]);
+                let early = rank(&after[0]) < rank(&one.commands[0]);
+                let more = Builder { commands: [before, &one.commands, after].concat() };
+                match word {
+                    _ if late => opening.expect("one more, late", &more.bytes(), 10),
+                    0..P if early => opening.expect("one more, early", &more.bytes(), 10),
+                    P.. => opening.expect("one more, bad word", &more.bytes(), 2),
+                    _ => drop(opening.check("one more", &more.bytes())),
+                }
+                opening.after("one more, cut off", &Builder { commands: before.to_vec() }, &one.bytes()[..8], 8);
+            }
+        }
+    }
+    let least = whole(opening.random, 1, [0; 5]);
+    for command in 3..=5 {
+        for before in EDGES.into_iter().filter(|&word| word < P) {
+            for word in EDGES.into_iter().chain([before.saturating_sub(1), before, before + 1]) {
+                let mut batch = Builder { commands: least.commands[..least.commands.len() - 1].to_vec() };
+                batch.command(command, &[before]).command(command, &[word]).end();
+                let number = if word < before { 10 } else if word < P { 0 } else { 2 };
+                opening.expect("two differences", &batch.bytes(), number);
+            }
+        }
+    }
+}
+
 /// 00 in every place, with a command missing and with bytes after it; about 16,384 bytes; five commands in every order.
 fn ends(opening: &mut Opening) {
     let (batch, most) = (whole(opening.random, 3, [3; 5]), largest(opening.random));
@@ -304,10 +380,20 @@ fn ends(opening: &mut Opening) {
 fn damage_commands(random: &mut Random, commands: &mut Vec<Vec<u8>>) {
     let (at, other) = (below(random, commands.len()), below(random, commands.len()));
     let command = commands[at].clone();
-    match random.word() % 9 {
+    match random.word() % 12 {
         0 => commands.swap(at, other),
         1 => shuffle(random, commands),
         2 => commands.insert(other, command),
+        8 => {
+            commands.remove(at);
+            commands.insert(other, command);
+        }
+        9 if at > 0 => commands.swap(at - 1, at),
+        10 if command.len() == 9 => {
+            let word = u64::from_le_bytes(command[1..].try_into().unwrap());
+            let other = [word.saturating_sub(1), word.saturating_add(1), word >> 8, word << 8, random.base()][below(random, 5)];
+            commands[at][1..].copy_from_slice(&other.to_le_bytes());
+        }
         3 => commands[at].truncate(below(random, command.len())),
         4 => commands[at][0] = random.word() as u8 % [10, 12, 255][below(random, 3)],
         5 => {
@@ -355,8 +441,11 @@ fn damaged(random: &mut Random, batch: &Builder) -> Vec<u8> {
     bytes
 }
 
-/// A few commands at random, 01 mostly first, most of them whole.
+/// A few commands at random, 01 mostly first, half of them in order, most of them whole; or bytes at random.
 fn babble(random: &mut Random) -> Vec<u8> {
+    if random.word() % 16 == 0 {
+        return (0..random.word() % 64).map(|_| random.word() as u8 % [3, 10, 255][below(random, 3)]).collect();
+    }
     let mut batch = Builder::default();
     if random.word() % 8 != 0 {
         batch.rows(random.word() as u32 % 35);
@@ -373,6 +462,9 @@ fn babble(random: &mut Random) -> Vec<u8> {
             _ => batch.command(command, &operand),
         };
     }
+    if random.word() % 2 == 0 {
+        batch.ordered();
+    }
     let mut bytes = batch.bytes();
     if random.word() % 4 == 0 {
         bytes.truncate(below(random, bytes.len() + 1));
@@ -384,12 +476,13 @@ fn babble(random: &mut Random) -> Vec<u8> {
 pub fn compare(random: &mut Random, count: u64) -> bool {
     let mut whole = Opening::new("open", random);
     sound(&mut whole, count / 40);
-    let right = whole.tally.report();
+    let right = whole.tally.report() & whole.again.report();
     let mut opening = Opening::new("open, damaged", random);
     every_byte(&mut opening);
     bad_words(&mut opening);
     rows(&mut opening);
     past_counts(&mut opening);
+    orders(&mut opening);
     ends(&mut opening);
     for _ in 0..count / 12 {
         let batch = random_whole(opening.random);
@@ -402,6 +495,6 @@ pub fn compare(random: &mut Random, count: u64) -> bool {
             opening.check("babble", &bytes);
         }
     }
-    opening.tally.reached(&[0, 1, 2, 3, 7, 8, 9]);
-    opening.tally.report() && right
+    opening.tally.reached(&[0, 1, 2, 3, 7, 8, 9, 10]);
+    opening.tally.report() & opening.again.report() & right
 }

@@ -9,6 +9,7 @@ mod derived;
 mod extension;
 mod scans;
 mod tables;
+mod writing;
 
 use compare::random::Random;
 
@@ -26,6 +27,7 @@ fn main() {
         tables::compare(&mut random, count / 100),
         extension::compare(&mut random, count / 3),
         batches::compare(&mut random, count * 4),
+        writing::compare(&mut random, count / 3),
     ];
     std::process::exit(if right.iter().all(|&r| r) { 0 } else { 1 });
 }

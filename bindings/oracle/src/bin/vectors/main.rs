@@ -6,7 +6,7 @@ mod runs;
 
 use std::io::Write;
 
-use compare::builder::Builder;
+use compare::plain::batch;
 use compare::plain::extension::AUX_WIDTH;
 use compare::random::Random;
 use oracle::MAIN_WIDTH;
@@ -27,18 +27,11 @@ fn answer(case: &Case) -> (u8, Vec<u64>) {
 }
 
 fn batch(case: &Case) -> Vec<u8> {
-    let mut batch = Builder::default();
-    batch.rows(case.trace.len() as u32).sampled(&case.sampled);
-    for row in &case.trace {
-        batch.row(row);
-    }
     let [op_stack, ram, jump_stack] = &case.differences;
-    for (command, words) in [(3, op_stack), (4, ram), (5, jump_stack), (8, &case.input), (9, &case.output)] {
-        for &word in words {
-            batch.command(command, &[word]);
-        }
-    }
-    batch.digest(&case.digest).end().bytes()
+    let contents = [case.trace.as_flattened(), op_stack, ram, jump_stack, &case.sampled, &case.digest, &case.input, &case.output];
+    let mut bytes = vec![0; batch::length(&contents)];
+    assert_eq!(batch::write(contents, &mut bytes), 0, "{}", case.name);
+    bytes
 }
 
 fn main() -> std::io::Result<()> {

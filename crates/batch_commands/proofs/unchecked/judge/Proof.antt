@@ -15,16 +15,16 @@ use Rattle.batch_commands.proofs.unchecked.judge.Tie as tie
 abbrev start : tie.After-width → tie.Start
 start c = c .before .before
 
-places : (c : tie.After-out-of-place) → let args = start (c .before) .args in
-    outOfPlace (args .rows) (args .came) (args .code) (length (drop (args .at) (args .batch .now)) - width (args .code)) ≡ c .out-of-place .result
+places : (c : tie.After-out-of-place) → let args = start (c .before .before) .args in
+    outOfPlace (args .seen .rows) (args .seen .came) (args .code) (length (drop (args .at) (args .batch .now)) - width (args .code)) ≡ c .out-of-place .result
 places c =
-    let args = start (c .before) .args in
-    let e : length (drop (args .at) (args .batch .now)) - width (args .code) ≡ length (args .batch .now) - (args .at + c .before .width .result) = omega (arith, c .before .width .ensures, length-drop (args .at) (args .batch .now)) in
+    let args = start (c .before .before) .args in
+    let e : length (drop (args .at) (args .batch .now)) - width (args .code) ≡ length (args .batch .now) - (args .at + c .before .before .width .result) = omega (arith, c .before .before .width .ensures, length-drop (args .at) (args .batch .now)) in
     rw e (sym (c .out-of-place .ensures))
 
-below : (c : tie.After-words-below) → let args = start (c .before .before .before .before .before) .args in
+below : (c : tie.After-words-below) → let wide = c .before .before .before .before .before .before .before .before in let args = start wide .args in
     allBelow (words (width (args .code) / 8) (drop (args .at) (args .batch .now))) ≡ c .words-below .result
-below c = sym (rw (c .before .before .before .before .before .width .ensures) at (c .words-below .ensures))
+below c = sym (rw (c .before .before .before .before .before .before .before .before .width .ensures) at (c .words-below .ensures))
 
 width-requires : tie.Need-width-requires
 width-requires c κs = search needs
@@ -42,29 +42,41 @@ returns : tie.Need-returns
 unfolding judged
 returns c = rw (places (c .before) ∙ c .if1 .taken)
 
-wrong-row-count-requires : tie.Need-wrong-row-count-requires
-wrong-row-count-requires c κs = search needs
+out-of-order-requires : tie.Need-out-of-order-requires
+out-of-order-requires c κs = search needs
 
 returns-2 : tie.Need-returns-2
 unfolding judged
-returns-2 c = let first = c .before .before in rw (places (first .before) ∙ first .if1 .left, sym (c .before .wrong-row-count .ensures) ∙ c .if2 .taken)
+returns-2 c = let first = c .before .before in rw (places (first .before) ∙ first .if1 .left, sym (c .before .out-of-order .ensures) ∙ c .if2 .taken)
 
-words-below-requires : tie.Need-words-below-requires
-words-below-requires c κs = search needs
+wrong-row-count-requires : tie.Need-wrong-row-count-requires
+wrong-row-count-requires c κs = search needs
 
 returns-3 : tie.Need-returns-3
 unfolding judged
 returns-3 c =
     let second = c .before .before in
     let first = second .before .before in
-    rw (places (first .before) ∙ first .if1 .left, sym (second .before .wrong-row-count .ensures) ∙ second .if2 .left, below (c .before) ∙ not-true (c .before .words-below .result) (c .if3 .taken))
+    rw (places (first .before) ∙ first .if1 .left, sym (second .before .out-of-order .ensures) ∙ second .if2 .left, sym (c .before .wrong-row-count .ensures) ∙ c .if3 .taken)
+
+words-below-requires : tie.Need-words-below-requires
+words-below-requires c κs = search needs
 
 returns-4 : tie.Need-returns-4
 unfolding judged
 returns-4 c =
-    let second = c .before .before in
+    let third = c .before .before in
+    let second = third .before .before in
     let first = second .before .before in
-    rw (places (first .before) ∙ first .if1 .left, sym (second .before .wrong-row-count .ensures) ∙ second .if2 .left, below (c .before) ∙ not-false (c .before .words-below .result) (c .if3 .left))
+    rw (places (first .before) ∙ first .if1 .left, sym (second .before .out-of-order .ensures) ∙ second .if2 .left, sym (third .before .wrong-row-count .ensures) ∙ third .if3 .left, below (c .before) ∙ not-true (c .before .words-below .result) (c .if4 .taken))
+
+returns-5 : tie.Need-returns-5
+unfolding judged
+returns-5 c =
+    let third = c .before .before in
+    let second = third .before .before in
+    let first = second .before .before in
+    rw (places (first .before) ∙ first .if1 .left, sym (second .before .out-of-order .ensures) ∙ second .if2 .left, sym (third .before .wrong-row-count .ensures) ∙ third .if3 .left, below (c .before) ∙ not-false (c .before .words-below .result) (c .if4 .left))
 
 pub judge-spec : {M : Type 1} → statement M
 judge-spec =
@@ -75,8 +87,10 @@ judge-spec =
     sub-out-of-place
     out-of-place-requires
     returns
-    wrong-row-count-requires
+    out-of-order-requires
     returns-2
-    words-below-requires
+    wrong-row-count-requires
     returns-3
-    returns-4)
+    words-below-requires
+    returns-4
+    returns-5)

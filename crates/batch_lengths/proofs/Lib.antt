@@ -1,0 +1,2 @@
+-- Laws on tests.
+pub mod Tests

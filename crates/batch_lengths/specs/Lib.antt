@@ -1,0 +1,2 @@
+-- Lengths of lists and of the batch.
+pub mod Lengths

@@ -1,0 +1,64 @@
+// The lengths of what is written.
+use air::MainIndex;
+ghost use mathlib.Core.Path.{_≡_};
+ghost use Rattle.batch_lengths.specs.Lengths.{rightNumbers};
+
+const MAX_DIFFERENCES: usize = 128;
+
+const MAX_WORDS: usize = 64;
+
+// What 01, 07, 06 and 00 take, and a row, and a difference or a word.
+const ONCE_LEN: usize = 1464;
+
+const ROW_LEN: usize = 313;
+
+const WORD_LEN: usize = 9;
+
+// Of whole rows, lists within their counts, and a batch as long as they make it.
+pub fn right_lengths(
+    trace: usize,
+    op_stack: usize,
+    ram: usize,
+    jump_stack: usize,
+    sampled: usize,
+    digest: usize,
+    input: usize,
+    output: usize,
+    batch: usize,
+) -> bool
+    ensures { λ r. ⌜ r ≡ rightNumbers trace «op_stack» ram «jump_stack» sampled digest input output batch ⌝ }
+{
+    if trace % MainIndex::COUNT != 0 {
+        return false;
+    }
+    if MAX_DIFFERENCES < op_stack {
+        return false;
+    }
+    if MAX_DIFFERENCES < ram {
+        return false;
+    }
+    if MAX_DIFFERENCES < jump_stack {
+        return false;
+    }
+    if sampled != 177 {
+        return false;
+    }
+    if digest != 5 {
+        return false;
+    }
+    if MAX_WORDS < input {
+        return false;
+    }
+    if MAX_WORDS < output {
+        return false;
+    }
+    let without_rows = ONCE_LEN + WORD_LEN * (op_stack + ram + jump_stack + input + output);
+    if batch < without_rows {
+        return false;
+    }
+    let of_rows = batch - without_rows;
+    if of_rows % ROW_LEN != 0 {
+        return false;
+    }
+    of_rows / ROW_LEN == trace / MainIndex::COUNT
+}

@@ -1,0 +1,238 @@
+-- The commands of one kind stand together: a section, which begins behind the commands of a lower rank.
+use mathlib.Core.Path.{_≡_, refl, sym, ap, _∙_}
+use mathlib.Core.Bool.{Bool, true, false, cond, _&&_}
+use mathlib.Core.List.{List, [], _∷_, _++_, append-assoc, append-nil}
+use Prim.Native.Nat.{ℕ, _+_, _*_, _/_, _≤_, _<_}
+use native.Mathlib.Nat.{add-assoc, zero-add, add-zero, add-mul}
+use native.Mathlib.Omega.{arith}
+use lib.Dec.{eqb, ltb, lit<}
+use lib.ListN.{length, take, drop, getD, length-append, length-drop}
+use lib.Seq.{getD-drop, drop-drop, drop-append-seam, take-at, take-append-seam, drop-append-add}
+use borrow.Author.Tests.{lt-ltb, le-ltb, eq-eqb, ne-eqb, eqb-false}
+use Rattle.batch_words.proofs.Bytes.{length-words, words-within}
+use Rattle.batch_commands.specs.Format.{END, TRACE-ROWS, DIGEST, width, wordsIn, rank, key, Command, laidOut}
+use Rattle.batch_commands.proofs.Tables.{rank-injective, of-each}
+use Rattle.batch_commands.proofs.Laid.{laid-append}
+use Rattle.batch_reader.specs.Commands.{count, counts, contents}
+use Rattle.batch_reader.specs.Reading.{read, reading, commandsOf}
+use Rattle.batch_reader.specs.Answers.{brought, written}
+use Rattle.batch_reader.specs.Steps.{bytesBelow}
+use Rattle.batch_reader.proofs.Commands.{count-at, contents-append}
+use Rattle.batch_reader.proofs.Bounds.{bounded}
+use Rattle.batch_reader.proofs.Ordered.{Every, every-append, every-map, ordered, ordered-parts, ranks-from, split}
+use Rattle.batch_reader.proofs.LaidOut.{Next, Faultless, faultless-parts, Laid, laid}
+
+-- words behind words
+pub written-on : (cs ws slice₀ slice : List ℕ) (to : ℕ) → slice ≡ written cs slice₀ → to ≡ length cs → take to slice ++ ws ++ drop (to + length ws) slice ≡ written (cs ++ ws) slice₀
+written-on cs ws slice₀ slice to e q = rw (e, q, take-append-seam, drop-append-add, drop-drop, length-append)
+
+abbrev Whole : Command → Type 0
+Whole k = length (k .operand) ≡ width (k .code)
+
+all-whole : (before ks : List Command) → Faultless before ks → Every Whole ks
+all-whole before [] h = tt
+all-whole before (k ∷ ks) h = (h .0 .whole, all-whole (before ++ (k ∷ [])) ks (h .1))
+
+below-append : (r : ℕ) (ks js : List Command) → bytesBelow r (ks ++ js) ≡ bytesBelow r ks + bytesBelow r js
+unfolding bytesBelow
+below-append r [] js = sym (zero-add (bytesBelow r js))
+below-append r (k ∷ ks) js = rw (below-append r ks js, add-assoc (cond (ltb (rank (k .code)) r) (1 + width (k .code)) 0) (bytesBelow r ks) (bytesBelow r js))
+
+below-all : (r : ℕ) (ks : List Command) → Every Whole ks → Every (λ k. rank (k .code) < r) ks → bytesBelow r ks ≡ length (laidOut ks)
+unfolding bytesBelow laidOut
+below-all r [] w h = refl
+below-all r (k ∷ ks) w h = rw (lt-ltb (rank (k .code)) r (h .0), below-all r ks (w .1) (h .1), length-append (k .operand) (laidOut ks), w .0) (omega arith)
+
+below-none : (r : ℕ) (ks : List Command) → Every (λ k. r ≤ rank (k .code)) ks → bytesBelow r ks ≡ 0
+unfolding bytesBelow
+below-none r [] h = refl
+below-none r (k ∷ ks) h = rw (le-ltb (rank (k .code)) r (h .0), below-none r ks (h .1))
+
+none-brought : (wanted : ℕ) (ks : List Command) → Every (λ k. k .code ≡ wanted → ⊥) ks → contents wanted ks ≡ []
+unfolding contents
+none-brought wanted [] h = refl
+none-brought wanted (k ∷ ks) h = rw (ne-eqb (k .code) wanted (h .0), none-brought wanted ks (h .1))
+
+one-brought : (wanted : ℕ) (k : Command) → k .code ≡ wanted → contents wanted (k ∷ []) ≡ wordsIn wanted (k .operand)
+unfolding contents
+one-brought wanted k e = rw (eq-eqb (k .code) wanted e, append-nil, e)
+
+lt-of-ne : (a b : ℕ) → a ≤ b → (a ≡ b → ⊥) → a + 1 ≤ b
+lt-of-ne a b l n = omega arith
+
+-- a slice that begins with what the commands of the wanted kind up to a place have brought
+pub record Section (batch : List ℕ) (wanted : ℕ) (slice₀ slice : List ℕ) (to at : ℕ) : Type 0 where
+  before : List Command
+  after : List Command
+  parts : commandsOf (reading batch) ≡ before ++ after
+  place : at ≡ length (laidOut before)
+  low : Every (λ k. rank (k .code) < rank wanted + 1) before
+  high : Every (λ k. rank wanted ≤ rank (k .code)) after
+  pub same-length : length slice ≡ length slice₀
+  filled : slice ≡ written (contents wanted before) slice₀
+  reached : to ≡ length (contents wanted before)
+
+module _ (batch : List ℕ) (wanted : ℕ) (opened : reading batch ≡ read (commandsOf (reading batch))) (some : 0 < wanted) (known : wanted < 10) where
+  abbrev ks : List Command
+  ks = commandsOf (reading batch)
+
+  is-laid : Laid batch ks
+  is-laid = laid batch ks opened
+
+  pub begins : (slice : List ℕ) (at : ℕ) → at ≡ bytesBelow (rank wanted) ks → Section batch wanted slice slice 0 at
+  begins slice at e =
+      let s = split (rank wanted) 0 0 ks (ordered batch ks opened) in
+      let whole = all-whole [] (s .low) (faultless-parts [] (s .low) (s .high) (rw (s .parts) at (is-laid .faultless)) .0) in
+      let none = none-brought wanted (s .low) (every-map _ _ (λ k l q. let z = ap rank q in omega arith) (s .low) (s .low-ranks)) in
+      record {
+        before = s .low;
+        after = s .high;
+        parts = s .parts;
+        place = e ∙ ap (bytesBelow (rank wanted)) (s .parts) ∙ below-append (rank wanted) (s .low) (s .high) ∙ rw (below-none (rank wanted) (s .high) (s .high-ranks), add-zero) (below-all (rank wanted) (s .low) whole (s .low-ranks));
+        low = every-map _ _ (λ k l. omega arith) (s .low) (s .low-ranks);
+        high = s .high-ranks;
+        same-length = refl;
+        filled = rw none;
+        reached = rw none;
+      }
+
+  -- the bytes from a place on
+  bytes-there : (before after : List Command) → ks ≡ before ++ after → drop (length (laidOut before)) batch ≡ laidOut after ++ (END ∷ [])
+  bytes-there before after e =
+      let b : batch ≡ laidOut before ++ (laidOut after ++ (END ∷ [])) = is-laid .is ∙ rw (e, laid-append before after, append-assoc) in
+      ap (drop (length (laidOut before))) b ∙ drop-append-seam (laidOut before) (laidOut after ++ (END ∷ []))
+
+  module _ (slice₀ slice : List ℕ) (to at : ℕ) (s : Section batch wanted slice₀ slice to at) where
+    there : (after : List Command) → s .after ≡ after → drop at batch ≡ laidOut after ++ (END ∷ [])
+    there after e = rw (s .place, sym e) (bytes-there (s .before) (s .after) (s .parts))
+
+    code-there : (b : ℕ) (rest : List ℕ) → drop at batch ≡ b ∷ rest → getD batch at 0 ≡ b
+    code-there b rest e = ap (λ n. getD batch n 0) (sym (add-zero at)) ∙ sym (getD-drop at batch 0 0) ∙ ap (λ l. getD l 0 0) e
+
+    -- the command of the wanted kind that stands there, and what follows it
+    record Here : Type 0 where
+      k : Command
+      rest : List Command
+      is : s .after ≡ k ∷ rest
+      of-kind : k .code ≡ wanted
+
+    here-by : (after : List Command) → s .after ≡ after → getD batch at 0 ≡ wanted → Here
+    unfolding laidOut
+    here-by [] e q =
+        let z = code-there END [] (there [] e) in
+        let none : ⊥ = omega arith in
+        absurd none
+    here-by (k ∷ rest) e q = record { k = k; rest = rest; is = e; of-kind = sym (code-there (k .code) (k .operand ++ laidOut rest ++ (END ∷ [])) (there (k ∷ rest) e ∙ rw append-assoc)) ∙ q }
+
+    module _ (q : getD batch at 0 ≡ wanted) where
+      here : Here
+      here = here-by (s .after) refl q
+
+      parts-on : ks ≡ (s .before ++ (here .k ∷ [])) ++ here .rest
+      parts-on = s .parts ∙ ap (_++_ (s .before)) (here .is) ∙ sym (append-assoc (s .before) (here .k ∷ []) (here .rest))
+
+      k-next : Next (s .before) (here .k)
+      k-next = faultless-parts [] (s .before) (here .k ∷ here .rest) (rw (here .is) at (rw (s .parts) at (is-laid .faultless))) .1 .0
+
+      k-whole : length (here .k .operand) ≡ width wanted
+      k-whole = rw (here .of-kind) at (k-next .whole)
+
+      operand-there : drop (at + 1) batch ≡ here .k .operand ++ (laidOut (here .rest) ++ (END ∷ []))
+      unfolding laidOut
+      operand-there = sym (drop-drop 1 at batch) ∙ ap (drop 1) (there (here .k ∷ here .rest) (here .is)) ∙ rw append-assoc
+
+      pub fits : at + 1 + width wanted ≤ length batch
+      fits =
+          let n = ap length operand-there ∙ length-append (here .k .operand) (laidOut (here .rest) ++ (END ∷ [])) in
+          omega (arith, n, k-whole, length-drop (at + 1) batch, length-append (laidOut (here .rest)) (END ∷ []))
+
+      brought-there : wordsIn wanted (drop (at + 1) batch) ≡ contents wanted (here .k ∷ [])
+      brought-there =
+          let t : take (width wanted) (drop (at + 1) batch) ≡ here .k .operand = rw operand-there (take-at (here .k .operand) _ (width wanted) k-whole) in
+          sym (words-within (width wanted / 8) (width wanted) (drop (at + 1) batch) (omega arith)) ∙ ap (wordsIn wanted) t ∙ sym (one-brought wanted (here .k) (here .of-kind))
+
+      brought-on : contents wanted (s .before ++ (here .k ∷ [])) ≡ contents wanted (s .before) ++ wordsIn wanted (drop (at + 1) batch)
+      brought-on = contents-append wanted (s .before) (here .k ∷ []) ∙ ap (_++_ (contents wanted (s .before))) (sym brought-there)
+
+      pub room : length (brought wanted batch) ≤ length slice₀ → to + width wanted / 8 ≤ length slice
+      unfolding brought
+      room h =
+          let e = ap (contents wanted) parts-on ∙ contents-append wanted (s .before ++ (here .k ∷ [])) (here .rest) ∙ ap (λ l. l ++ contents wanted (here .rest)) brought-on in
+          let n = ap length e ∙ length-append (contents wanted (s .before) ++ wordsIn wanted (drop (at + 1) batch)) (contents wanted (here .rest)) in
+          omega (arith, n, length-append (contents wanted (s .before)) (wordsIn wanted (drop (at + 1) batch)), length-words (width wanted / 8) (drop (at + 1) batch), s .same-length, s .reached)
+
+      laid-one : length (laidOut (here .k ∷ [])) ≡ 1 + width wanted
+      unfolding laidOut
+      laid-one = let n = length-append (here .k .operand) [] in let w = k-whole in omega arith
+
+      pub goes-on : (slice′ : List ℕ) → length slice′ ≡ length slice → slice′ ≡ take to slice ++ wordsIn wanted (drop (at + 1) batch) ++ drop (to + width wanted / 8) slice
+          → Section batch wanted slice₀ slice′ (to + width wanted / 8) (at + 1 + width wanted)
+      goes-on slice′ l e =
+          let ws = wordsIn wanted (drop (at + 1) batch) in
+          let n = length-words (width wanted / 8) (drop (at + 1) batch) in
+          record {
+            before = s .before ++ (here .k ∷ []);
+            after = here .rest;
+            parts = parts-on;
+            place = rw (laid-append, length-append) (omega (arith, s .place, laid-one));
+            low = every-append _ (s .before) (here .k ∷ []) (s .low) (let z = ap rank (here .of-kind) in omega arith, tt);
+            high = rw (here .is) at (s .high) .1;
+            same-length = l ∙ s .same-length;
+            filled = e ∙ ap (λ m. take to slice ++ ws ++ drop (to + m) slice) (sym n) ∙ written-on (contents wanted (s .before)) ws slice₀ slice to (s .filled) (s .reached) ∙ rw brought-on;
+            reached = ap (λ m. m + width wanted / 8) (s .reached) ∙ sym (ap length brought-on ∙ length-append (contents wanted (s .before)) ws ∙ ap (_+_ (length (contents wanted (s .before)))) n);
+          }
+
+    -- no command of the kind is left
+    past-by : (after : List Command) → s .after ≡ after → (getD batch at 0 ≡ wanted → ⊥) → Every (λ k. rank wanted + 1 ≤ rank (k .code)) after
+    unfolding laidOut
+    past-by [] e q = tt
+    past-by (k ∷ rest) e q =
+        let code : getD batch at 0 ≡ k .code = code-there (k .code) (k .operand ++ laidOut rest ++ (END ∷ [])) (there (k ∷ rest) e ∙ rw append-assoc) in
+        let ps : ks ≡ s .before ++ (k ∷ rest) = rw e at (s .parts) in
+        let next = faultless-parts [] (s .before) (k ∷ rest) (rw ps at (is-laid .faultless)) .1 .0 in
+        let from = rw e at (s .high) .0 in
+        let other : rank wanted ≡ rank (k .code) → ⊥ = λ z. q (code ∙ sym (rank-injective wanted (k .code) known (next .passes .known) z)) in
+        let more : rank wanted + 1 ≤ rank (k .code) = lt-of-ne (rank wanted) (rank (k .code)) from other in
+        let o = ordered-parts 0 0 (s .before) (k ∷ rest) (rw ps at (ordered batch ks opened)) .1 .1 in
+        (more, ranks-from (rank (k .code)) (key (k .code) (k .operand)) (rank wanted + 1) rest more o)
+
+    pub ends : (getD batch at 0 ≡ wanted → ⊥) → (at ≡ bytesBelow (rank wanted + 1) ks) × (slice ≡ written (brought wanted batch) slice₀)
+    unfolding brought
+    ends q =
+        let past = past-by (s .after) refl q in
+        let whole = all-whole [] (s .before) (faultless-parts [] (s .before) (s .after) (rw (s .parts) at (is-laid .faultless)) .0) in
+        let none = none-brought wanted (s .after) (every-map _ _ (λ k l z. let r = ap rank z in omega arith) (s .after) past) in
+        let bytes : bytesBelow (rank wanted + 1) ks ≡ length (laidOut (s .before)) = ap (bytesBelow (rank wanted + 1)) (s .parts) ∙ below-append (rank wanted + 1) (s .before) (s .after) ∙ rw (below-none (rank wanted + 1) (s .after) past, add-zero) (below-all (rank wanted + 1) (s .before) whole (s .low)) in
+        let all : contents wanted ks ≡ contents wanted (s .before) = ap (contents wanted) (s .parts) ∙ contents-append wanted (s .before) (s .after) ∙ rw (none, append-nil) in
+        (s .place ∙ sym bytes, s .filled ∙ ap (λ l. written l slice₀) (sym all))
+
+    pub not-at-end : length batch ≤ at → ⊥
+    not-at-end h =
+        let n = ap length (there (s .after) refl) ∙ length-append (laidOut (s .after)) (END ∷ []) in
+        omega (arith, n, length-drop at batch)
+
+-- 01, which has five bytes, stands first and once
+abbrev InFront : ℕ → Type 0
+InFront code = cond (ltb (rank code) (rank DIGEST)) (1 + width code) 0 ≡ cond (eqb code TRACE-ROWS) 1 0 * 5
+
+in-front : (ks : List Command) → Every (λ k. k .code < 10) ks → bytesBelow (rank DIGEST) ks ≡ count TRACE-ROWS ks * 5
+unfolding bytesBelow count
+in-front [] h = omega arith
+in-front (k ∷ ks) h =
+    rw (of-each InFront (refl, (refl, (refl, (refl, (refl, (refl, (refl, (refl, (refl, (refl, tt)))))))))) (k .code) (h .0), in-front ks (h .1), add-mul)
+
+all-known : (before ks : List Command) → Faultless before ks → Every (λ k. k .code < 10) ks
+all-known before [] h = tt
+all-known before (k ∷ ks) h = (h .0 .passes .known, all-known (before ++ (k ∷ [])) ks (h .1))
+
+came : (n : ℕ) (none : Bool) → eqb n 0 ≡ none → (none && true) ≡ false → n ≡ 0 → ⊥
+came n true e h = λ z. let q : _≡_ {A = ℕ} 0 1 = cc in omega arith
+came n false e h = eqb-false n 0 e
+
+pub behind-first : (batch : List ℕ) (ks : List Command) → reading batch ≡ read ks → bytesBelow (rank DIGEST) ks ≡ 5
+behind-first batch ks e =
+    let l = laid batch ks e in
+    let n = in-front ks (all-known [] ks (l .faultless)) in
+    let once = bounded batch ks e .within TRACE-ROWS (lit< tt) in
+    let some = came (getD (counts ks) TRACE-ROWS 0) (eqb (getD (counts ks) TRACE-ROWS 0) 0) refl (l .complete .after-first) in
+    omega (arith, count-at ks TRACE-ROWS (lit< tt))

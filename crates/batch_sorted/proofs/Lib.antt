@@ -1,0 +1,4 @@
+-- Laws on lists in ascending order.
+pub mod Lengths
+mod Inserting
+mod Sorting

@@ -1,0 +1,2 @@
+-- A list in ascending order.
+pub mod Sorted

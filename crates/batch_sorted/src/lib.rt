@@ -1,0 +1,2 @@
+// Lists of differences in ascending order.
+pub mod unchecked;

@@ -1,0 +1,81 @@
+-- The bytes of the first i words are in the batch, which is as it was elsewhere.
+use borrow.Author.Needs.{needs}
+use mathlib.Core.Path.{_≡_, refl, ap, _∙_}
+use Prim.Native.Nat.{_+_, _-_, _*_, _≤_}
+use native.Mathlib.Omega.{arith}
+use lib.ListN.{length, take, getD}
+use lib.Seq.{take-all}
+use Rattle.batch_words.specs.Words.{littleEndian, bytesOf}
+use Rattle.batch_words.specs.Pasted.{pasted}
+use Rattle.batch_words.proofs.Writing.{word-on}
+use Rattle.batch_words.proofs.Pasting.{pasted-none}
+use Rattle.batch_words.proofs.unchecked.write_words.Statement.{statement}
+use Rattle.batch_words.proofs.unchecked.write_words.Tie as tie
+
+abbrev Inv-loop : tie.InvT-loop
+Inv-loop words batch₀ at i₀ batch i = (i ≤ length words) × (length batch ≡ length batch₀) × (batch ≡ pasted batch₀ at (bytesOf (take i words)))
+
+abbrev μ-loop : tie.MeasureT-loop
+μ-loop words batch₀ at i₀ batch i = length words - i
+
+loop-holds : tie.Need-loop-holds Inv-loop μ-loop
+unfolding bytesOf
+loop-holds c = let args = c .before .before .args in (search needs, refl, pasted-none (args .batch .now) (args .at))
+
+mul-write-word : tie.Need-mul-write-word Inv-loop μ-loop
+mul-write-word c = search needs
+
+add-write-word : tie.Need-add-write-word Inv-loop μ-loop
+add-write-word c = search needs
+
+mul-write-word-2 : tie.Need-mul-write-word-2 Inv-loop μ-loop
+mul-write-word-2 c = search needs
+
+shared-slice-read-write-word : tie.Need-shared-slice-read-write-word Inv-loop μ-loop
+shared-slice-read-write-word c = search needs
+
+write-word-requires : tie.Need-write-word-requires Inv-loop μ-loop
+write-word-requires c κs = search needs
+
+add-i : tie.Need-add-i Inv-loop μ-loop
+add-i c = search needs
+
+loop-less : tie.Need-loop-less Inv-loop μ-loop
+loop-less c = search needs
+
+loop-again : tie.Need-loop-again Inv-loop μ-loop
+loop-again c =
+    let at-loop = c .before .before .before .before .before .before in
+    let args = at-loop .before .before .before .args in
+    let i = at-loop .loop .i in
+    let wrote = c .before .before .write-word in (
+      search needs,
+      wrote .kept .0 ∙ at-loop .loop .inv .1,
+      wrote .ensures ∙ ap (λ l. pasted l (args .at + 8 * i) (littleEndian 8 (getD (args .words .now) i 0))) (at-loop .loop .inv .2) ∙ word-on (args .batch .now) (args .at) (args .words .now) i (omega arith) (omega arith),
+    )
+
+same-length : tie.Need-same-length Inv-loop μ-loop
+same-length c = search needs
+
+returns : tie.Need-returns Inv-loop μ-loop
+returns c =
+    let args = c .before .before .before .before .args in
+    c .before .loop .inv .2 ∙ rw (take-all (c .before .loop .i) (args .words .now) (c .loop-test .left))
+
+pub write-words-spec : {M : Type 1} → statement M
+write-words-spec =
+    tie.close
+    (tie.spec
+    Inv-loop
+    μ-loop
+    loop-holds
+    mul-write-word
+    add-write-word
+    mul-write-word-2
+    shared-slice-read-write-word
+    write-word-requires
+    add-i
+    loop-less
+    loop-again
+    same-length
+    returns)

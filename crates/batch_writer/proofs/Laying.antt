@@ -1,0 +1,29 @@
+-- Commands laid out: how long they are, and one more.
+use mathlib.Core.Path.{_≡_, refl, ap, _∙_}
+use mathlib.Core.List.{List, [], _∷_, _++_}
+use Prim.Native.Nat.{ℕ, zero, suc, _+_, _*_, _/_, _%_, _≤_}
+use native.Mathlib.Nat.{suc-mul, zero-mul}
+use native.Mathlib.Omega.{arith}
+use lib.ListN.{length, take, drop, length-append, length-drop}
+use Rattle.batch_words.specs.Words.{bytesOf}
+use Rattle.batch_words.proofs.Writing.{length-bytesOf-take}
+use Rattle.batch_commands.specs.Format.{width, laidOut}
+use Rattle.batch_writer.specs.Layout.{commandsWith}
+
+pub laid-next : (n code : ℕ) (ws : List ℕ) → laidOut (commandsWith (suc n) code ws) ≡ (code ∷ bytesOf (take (width code / 8) ws)) ++ laidOut (commandsWith n code (drop (width code / 8) ws))
+unfolding laidOut commandsWith
+laid-next n code ws = refl
+
+pub laid-none : (code : ℕ) (ws : List ℕ) → laidOut (commandsWith 0 code ws) ≡ []
+unfolding laidOut commandsWith
+laid-none code ws = refl
+
+-- of a kind whose operands are words
+pub length-laid : (n code : ℕ) (ws : List ℕ) → width code % 8 ≡ 0 → n * (width code / 8) ≤ length ws → length (laidOut (commandsWith n code ws)) ≡ n * (1 + width code)
+length-laid zero code ws whole enough = ap length (laid-none code ws) ∙ omega (arith, zero-mul (1 + width code))
+length-laid (suc n) code ws whole enough =
+    let k = width code / 8 in
+    let more : suc n * k ≡ n * k + k = suc-mul n k in
+    let rest = length-laid n code (drop k ws) whole (omega (arith, length-drop k ws)) in
+    ap length (laid-next n code ws)
+    ∙ omega (arith, length-append (code ∷ bytesOf (take k ws)) (laidOut (commandsWith n code (drop k ws))), length-bytesOf-take ws k (omega arith), rest, suc-mul n (1 + width code))

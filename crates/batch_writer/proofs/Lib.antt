@@ -1,0 +1,9 @@
+-- Laws on commands as they are laid out.
+pub mod Laying
+mod Putting
+pub mod Parts
+pub mod Lengths
+mod Room
+mod Reaching
+mod Belows
+pub mod Answers

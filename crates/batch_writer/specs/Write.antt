@@ -1,0 +1,55 @@
+-- Write: the answer, and what the lent batch holds then.
+use mathlib.Core.Bool.{Bool, cond, not, _&&_}
+use mathlib.Core.List.{List}
+use Prim.Native.Nat.{ℕ}
+use lib.Dec.{eqb, leb}
+use lib.ListN.{length}
+use Rattle.field_base.specs.Words.{allBelow}
+use Rattle.refusal.specs.Number.{onDone}
+use Rattle.refusal.specs.declared.Answer.{Answer}
+use Rattle.refusal.specs.declared.Answer.the-variants.{Done, Refused}
+use Rattle.refusal.specs.declared.Refusal.the-variants.{SliceLength, RowCount, WordNotBelowP}
+use Rattle.air.specs.ChallengeId.{SAMPLED-WORDS, DIGEST-WORDS}
+use Rattle.table_rows.specs.Rows.{wholeRows, rows}
+use Rattle.batch_commands.specs.Format.{MAX-ROWS, MAX-DIFFERENCES, MAX-WORDS}
+use Rattle.batch_writer.specs.Contents.{Contents}
+use Rattle.batch_writer.specs.Layout.{batchOf}
+
+-- "a slice of wrong length (a list past its count, an output not of the batch's length)"
+unfoldable pub rightLengths : Contents → ℕ → Bool
+unfolding batchOf
+rightLengths contents batch =
+    wholeRows (contents .trace)
+    && leb (length (contents .op-stack)) MAX-DIFFERENCES
+    && leb (length (contents .ram)) MAX-DIFFERENCES
+    && leb (length (contents .jump-stack)) MAX-DIFFERENCES
+    && eqb (length (contents .sampled)) SAMPLED-WORDS
+    && eqb (length (contents .digest)) DIGEST-WORDS
+    && leb (length (contents .input)) MAX-WORDS
+    && leb (length (contents .output)) MAX-WORDS
+    && eqb batch (length (batchOf contents))
+
+abbrev pub allWordsBelow : Contents → Bool
+allWordsBelow contents =
+    allBelow (contents .trace)
+    && allBelow (contents .op-stack)
+    && allBelow (contents .ram)
+    && allBelow (contents .jump-stack)
+    && allBelow (contents .sampled)
+    && allBelow (contents .digest)
+    && allBelow (contents .input)
+    && allBelow (contents .output)
+
+-- "1 for a slice of wrong length .., then 3, then 2", where the lent batch has `batch` bytes
+unfoldable pub writeAnswer : Contents → ℕ → Answer
+unfolding rightLengths
+writeAnswer contents batch =
+    cond (not (rightLengths contents batch)) (Refused SliceLength)
+    (cond (not (leb 1 (rows (contents .trace)) && leb (rows (contents .trace)) MAX-ROWS)) (Refused RowCount)
+    (cond (not (allWordsBelow contents)) (Refused WordNotBelowP)
+    Done))
+
+-- what the lent batch holds then
+unfoldable pub writeBatch : Contents → List ℕ → List ℕ
+unfolding writeAnswer batchOf
+writeBatch contents batch = onDone (writeAnswer contents (length batch)) (batchOf contents) batch

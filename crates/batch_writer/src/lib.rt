@@ -1,0 +1,112 @@
+// Write: it decides on its answer first, and writes only then.
+use air::MainIndex;
+use batch_lengths::right_lengths;
+use field_base::all_below;
+use refusal::Answer;
+use refusal::Refusal;
+use unchecked::put_batch;
+ghost use mathlib.Core.Path.{_≡_};
+ghost use lib.ListN.{length};
+ghost use Rattle.batch_writer.specs.Contents.{contentsOf};
+ghost use Rattle.batch_writer.specs.Write.{allWordsBelow, writeAnswer, writeBatch};
+
+mod unchecked;
+
+const MAX_ROWS: usize = 32;
+
+fn all_words_below(
+    trace: &[u64],
+    op_stack: &[u64],
+    ram: &[u64],
+    jump_stack: &[u64],
+    sampled: &[u64],
+    digest: &[u64],
+    input: &[u64],
+    output: &[u64],
+) -> bool
+    ensures { λ r. ⌜ r ≡ allWordsBelow (contentsOf (now (trace .entry)) (now («op_stack» .entry)) (now (ram .entry)) (now («jump_stack» .entry)) (now (sampled .entry)) (now (digest .entry)) (now (input .entry)) (now (output .entry))) ⌝ }
+{
+    if !all_below(trace) {
+        return false;
+    }
+    if !all_below(op_stack) {
+        return false;
+    }
+    if !all_below(ram) {
+        return false;
+    }
+    if !all_below(jump_stack) {
+        return false;
+    }
+    if !all_below(sampled) {
+        return false;
+    }
+    if !all_below(digest) {
+        return false;
+    }
+    if !all_below(input) {
+        return false;
+    }
+    all_below(output)
+}
+
+// Writes the batch of these contents, or nothing where it refuses.
+pub fn write(
+    trace: &[u64],
+    op_stack: &[u64],
+    ram: &[u64],
+    jump_stack: &[u64],
+    sampled: &[u64],
+    digest: &[u64],
+    input: &[u64],
+    output: &[u64],
+    batch: &mut [u8],
+) -> Answer
+    ensures answer { λ r. ⌜ r ≡ writeAnswer (contentsOf (now (trace .entry)) (now («op_stack» .entry)) (now (ram .entry)) (now («jump_stack» .entry)) (now (sampled .entry)) (now (digest .entry)) (now (input .entry)) (now (output .entry))) (length (now (batch .entry))) ⌝ }
+    ensures batch { λ r. ⌜ now (batch .exit) ≡ writeBatch (contentsOf (now (trace .entry)) (now («op_stack» .entry)) (now (ram .entry)) (now («jump_stack» .entry)) (now (sampled .entry)) (now (digest .entry)) (now (input .entry)) (now (output .entry))) (now (batch .entry)) ⌝ }
+{
+    if !right_lengths(
+        trace.len(),
+        op_stack.len(),
+        ram.len(),
+        jump_stack.len(),
+        sampled.len(),
+        digest.len(),
+        input.len(),
+        output.len(),
+        batch.len(),
+    ) {
+        return Answer::Refused(Refusal::SliceLength);
+    }
+    let rows = trace.len() / MainIndex::COUNT;
+    if rows < 1 {
+        return Answer::Refused(Refusal::RowCount);
+    }
+    if MAX_ROWS < rows {
+        return Answer::Refused(Refusal::RowCount);
+    }
+    if !all_words_below(
+        trace,
+        op_stack,
+        ram,
+        jump_stack,
+        sampled,
+        digest,
+        input,
+        output,
+    ) {
+        return Answer::Refused(Refusal::WordNotBelowP);
+    }
+    put_batch(
+        trace,
+        op_stack,
+        ram,
+        jump_stack,
+        sampled,
+        digest,
+        input,
+        output,
+        batch,
+    );
+    Answer::Done
+}

@@ -1,0 +1,168 @@
+-- What holds of the commands of a batch that is read, and that a batch of such commands is read.
+use mathlib.Core.Path.{_≡_, refl}
+use mathlib.Core.Bool.{true, false, not, _&&_, _||_}
+use mathlib.Core.List.{List, [], _∷_, _++_, append-assoc}
+use Prim.Native.Nat.{ℕ, _≤_, _<_}
+use native.Mathlib.Omega.{arith}
+use lib.Dec.{eqb, leb, ltb, lit<, lit≤}
+use lib.ListN.{length, take}
+use lib.Seq.{take-all}
+use borrow.Author.Tests.{ltb-false, le-ltb, leb-true, le-leb, eqb-true, eqb-false, eq-eqb, ne-eqb, not-false}
+use Rattle.field_base.specs.Words.{allBelow}
+use Rattle.field_base.proofs.Below.{and-true}
+use Rattle.refusal.proofs.Answers.{or-false}
+use Rattle.batch_words.specs.Words.{number, words}
+use Rattle.batch_commands.specs.Format.{END, TRACE-ROWS, ROW, SAMPLED, DIGEST, MAX-ROWS, width, wordsIn, rank, key, Command}
+use Rattle.batch_commands.specs.Fault.{limit, missing, wrongRowCount}
+use Rattle.batch_reader.specs.Commands.{count, counts, announced, highestRank, lastKey, seenIn}
+use Rattle.batch_reader.specs.Reading.{read, reading}
+use Rattle.batch_reader.proofs.Commands.{count-append, count-at}
+use Rattle.batch_reader.proofs.Bounds.{bounded}
+use Rattle.batch_reader.proofs.Passing.{Passes}
+use Rattle.batch_reader.proofs.Ordered.{Ordered, Every, highest, ordered, ordered-append, ordered-parts, not-before, not-before-test}
+use Rattle.batch_reader.proofs.LaidOut.{Next, end, Faultless, laid}
+
+pub record Proper (k : Command) : Type 0 where
+  pub known : k .code < 10
+  pub more : k .code ≡ END → ⊥
+  pub whole : length (k .operand) ≡ width (k .code)
+  pub below : allBelow (wordsIn (k .code) (k .operand)) ≡ true
+
+-- 01 stands first
+abbrev pub Starts : List Command → Type 0
+Starts [] = ⊥
+Starts (k ∷ ks) = k .code ≡ TRACE-ROWS
+
+pub record Sound (ks : List Command) : Type 0 where
+  pub starts : Starts ks
+  pub some-rows : 1 ≤ announced ks
+  pub few-rows : announced ks ≤ 32
+  pub each : Every Proper ks
+  pub in-order : Ordered (ks ++ (end ∷ []))
+  pub within : (code : ℕ) → code < 10 → count code ks ≤ limit (announced ks) code
+  pub all-rows : announced ks ≤ count ROW ks
+  pub sampled : 1 ≤ count SAMPLED ks
+  pub digest : 1 ≤ count DIGEST ks
+
+each-proper : (before ks : List Command) → Faultless before ks → Every Proper ks
+each-proper before [] h = tt
+each-proper before (k ∷ ks) h =
+    (record { known = h .0 .passes .known; more = h .0 .more; whole = h .0 .whole; below = h .0 .passes .below }, each-proper (before ++ (k ∷ [])) ks (h .1))
+
+-- the first command, or 00 without one
+first-is : (code : ℕ) (operand : List ℕ) → Passes (seenIn []) code operand → code ≡ TRACE-ROWS
+unfolding count
+first-is code operand p = eqb-true code TRACE-ROWS (not-false (eqb code TRACE-ROWS) (p .after-first))
+
+starts-by : (ks : List Command) → Faultless [] ks → Passes (seenIn ks) END [] → Starts ks
+starts-by [] h p = absurd (omega (arith, first-is END [] p))
+starts-by (k ∷ ks) h p = first-is (k .code) (k .operand) (h .0 .passes)
+
+some-by : (ks : List Command) → Faultless [] ks → Starts ks → 1 ≤ announced ks
+some-by [] h s = absurd s
+some-by (k ∷ ks) h s =
+    let n = number (take (width (k .code)) (k .operand)) in
+    let t : not (leb 1 n && leb n MAX-ROWS) ≡ false = rw (eq-eqb (k .code) TRACE-ROWS s) at (h .0 .passes .row-count) in
+    let v = and-true (leb 1 n) (leb n MAX-ROWS) (not-false (leb 1 n && leb n MAX-ROWS) t) in
+    rw (take-all (width (k .code)) (k .operand) (omega (arith, h .0 .whole))) at (leb-true 1 n (v .0))
+
+pub sound : (batch : List ℕ) (ks : List Command) → reading batch ≡ read ks → Sound ks
+unfolding key number
+sound batch ks e =
+    let l = laid batch ks e in
+    let c = l .complete in
+    let s = starts-by ks (l .faultless) c in
+    let b = bounded batch ks e in
+    let none = or-false (missing (announced ks) (counts ks)) false (c .at-end) .0 in
+    let f = or-false (ltb (count ROW ks) (announced ks) || eqb (count SAMPLED ks) 0) (eqb (count DIGEST ks) 0) none in
+    let g = or-false (ltb (count ROW ks) (announced ks)) (eqb (count SAMPLED ks) 0) (f .0) in
+    record {
+      starts = s;
+      some-rows = some-by ks (l .faultless) s;
+      few-rows = b .few-rows;
+      each = each-proper [] ks (l .faultless);
+      in-order = let o = ordered batch ks e in ordered-append 0 0 ks (end ∷ []) o (rw (highest ks o) at (not-before (highestRank ks) (lastKey 0 ks) 9 0 (c .in-order)), tt);
+      within = b .within;
+      all-rows = ltb-false (count ROW ks) (announced ks) (g .0);
+      sampled = let z = eqb-false (count SAMPLED ks) 0 (g .1) in omega arith;
+      digest = let z = eqb-false (count DIGEST ks) 0 (f .1) in omega arith;
+    }
+
+every-at : (P : Command → Type 0) (before : List Command) (k : Command) (after : List Command) → Every P (before ++ k ∷ after) → P k
+every-at P [] k after h = h .0
+every-at P (j ∷ before) k after h = every-at P before k after (h .1)
+
+-- one more than before it
+count-past : (code : ℕ) (before : List Command) (k : Command) (after : List Command) → k .code ≡ code → count code before < count code (before ++ k ∷ after)
+unfolding count
+count-past code before k after e = rw (count-append code before (k ∷ after), eq-eqb (k .code) code e) (omega arith)
+
+module _ (before : List Command) (k : Command) (after : List Command) (s : Sound (before ++ k ∷ after)) where
+  proper : Proper k
+  proper = every-at Proper before k after (s .each)
+
+  -- once its place and its rows are right
+  next-by : (eqb (count TRACE-ROWS before) 0 && not (eqb (k .code) TRACE-ROWS)) ≡ false → count (k .code) before < limit (announced before) (k .code)
+      → wrongRowCount (k .code) (take (width (k .code)) (k .operand)) ≡ false → Next before k
+  next-by first under row-count =
+      let o = ordered-parts 0 0 before (k ∷ (after ++ (end ∷ []))) (rw append-assoc at (s .in-order)) in
+      record {
+        more = proper .more;
+        whole = proper .whole;
+        passes = record {
+          known = proper .known;
+          whole = omega (arith, proper .whole);
+          after-first = first;
+          under = rw (count-at before (k .code) (proper .known)) under;
+          at-end = rw (ne-eqb (k .code) END (proper .more));
+          in-order = not-before-test (highestRank before) (lastKey 0 before) (rank (k .code)) (key (k .code) (k .operand)) (rw (highest before (o .0)) (o .1 .0));
+          row-count = row-count;
+          below = proper .below;
+        };
+      }
+
+next-first : (k : Command) (ks : List Command) → Sound (k ∷ ks) → Next [] k
+unfolding count
+next-first k ks s = next-by [] k ks s (rw (eq-eqb (k .code) TRACE-ROWS (s .starts))) (rw (s .starts) (lit< tt))
+    (rw (take-all (width (k .code)) (k .operand) (omega (arith, every-at Proper [] k ks (s .each) .whole)), eq-eqb (k .code) TRACE-ROWS (s .starts), le-leb 1 (number (k .operand)) (s .some-rows), le-leb (number (k .operand)) MAX-ROWS (s .few-rows)))
+
+one-first : (ks : List Command) → Starts ks → 1 ≤ count TRACE-ROWS ks
+unfolding count
+one-first [] s = absurd s
+one-first (k ∷ ks) s = rw (eq-eqb (k .code) TRACE-ROWS s) (omega arith)
+
+next-later : (j : Command) (before : List Command) (k : Command) (after : List Command) → Sound (j ∷ before ++ k ∷ after) → Next (j ∷ before) k
+next-later j before k after s =
+    let one = one-first (j ∷ before) (s .starts) in
+    let other : k .code ≡ TRACE-ROWS → ⊥ = λ e. omega (arith, s .within TRACE-ROWS (lit< tt), count-past TRACE-ROWS (j ∷ before) k after e) in
+    next-by (j ∷ before) k after s (rw (ne-eqb (count TRACE-ROWS (j ∷ before)) 0 (λ e. omega arith)))
+    (omega (arith, s .within (k .code) (proper (j ∷ before) k after s .known), count-past (k .code) (j ∷ before) k after refl)) (rw (ne-eqb (k .code) TRACE-ROWS other))
+
+nexts : (j : Command) (before ks : List Command) → Sound (j ∷ before ++ ks) → Faultless (j ∷ before) ks
+nexts j before [] s = tt
+nexts j before (k ∷ ks) s = (next-later j before k ks s, nexts j (before ++ (k ∷ [])) ks (rw append-assoc s))
+
+pub faultless : (ks : List Command) → Sound ks → Faultless [] ks
+faultless [] s = tt
+faultless (k ∷ ks) s = (next-first k ks s, nexts k [] ks s)
+
+-- 00 stands nowhere before the end
+no-end : (ks : List Command) → Every Proper ks → count END ks ≡ 0
+unfolding count
+no-end [] h = refl
+no-end (k ∷ ks) h = rw (ne-eqb (k .code) END (h .0 .more), no-end ks (h .1))
+
+pub complete : (ks : List Command) → Sound ks → Passes (seenIn ks) END []
+unfolding key number words allBelow
+complete ks s =
+    let one = one-first ks (s .starts) in
+    record {
+      known = lit< tt;
+      whole = lit≤ tt;
+      after-first = rw (ne-eqb (count TRACE-ROWS ks) 0 (λ e. omega arith));
+      under = rw (no-end ks (s .each)) (lit< tt);
+      at-end = let n = s .sampled in let m = s .digest in rw (le-ltb (count ROW ks) (announced ks) (s .all-rows), ne-eqb (count SAMPLED ks) 0 (λ e. omega arith), ne-eqb (count DIGEST ks) 0 (λ e. omega arith));
+      in-order = let o = ordered-parts 0 0 ks (end ∷ []) (s .in-order) in not-before-test (highestRank ks) (lastKey 0 ks) 9 0 (rw (highest ks (o .0)) (o .1 .0));
+      row-count = refl;
+      below = refl;
+    }
