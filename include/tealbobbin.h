@@ -24,23 +24,24 @@ extern "C" {
 
 /* The Rust crate's Cargo.toml has the same version. */
 #define TEALBOBBIN_VERSION_MAJOR 0
-#define TEALBOBBIN_VERSION_MINOR 2
+#define TEALBOBBIN_VERSION_MINOR 3
 #define TEALBOBBIN_VERSION_PATCH 0
-#define TEALBOBBIN_VERSION "0.2.0"
+#define TEALBOBBIN_VERSION "0.3.0"
 
 enum tealbobbin_refusal {
-    TEALBOBBIN_DONE = 0,                 /* none */
-    TEALBOBBIN_SLICE_LENGTH = 1,         /* a slice has the wrong length */
-    TEALBOBBIN_WORD_NOT_BELOW_P = 2,     /* a word is not below p */
-    TEALBOBBIN_ROW_COUNT = 3,            /* a number of rows is out of range */
-    TEALBOBBIN_DIFFERENCE_TOO_LARGE = 4, /* a clock jump difference is not below the number of trace rows */
-    TEALBOBBIN_CHUNK_LENGTH_ZERO = 5,    /* the chunk length is 0 */
-    TEALBOBBIN_ZERO_DENOMINATOR = 6,     /* a denominator is zero, or what is to be inverted */
-    TEALBOBBIN_UNKNOWN_COMMAND = 7,      /* a byte of a batch is no command */
-    TEALBOBBIN_BATCH_CUT_OFF = 8,        /* a batch ends too early */
-    TEALBOBBIN_COMMAND_OUT_OF_PLACE = 9, /* a batch has a command out of place or too often, or lacks one */
-    TEALBOBBIN_COMMAND_OUT_OF_ORDER = 10 /* a batch has a command behind one that belongs after it, or a difference below the one
-                                            before it */
+    TEALBOBBIN_DONE = 0,                  /* none */
+    TEALBOBBIN_SLICE_LENGTH = 1,          /* a slice has the wrong length */
+    TEALBOBBIN_WORD_NOT_BELOW_P = 2,      /* a word is not below p */
+    TEALBOBBIN_ROW_COUNT = 3,             /* a number of rows is out of range */
+    TEALBOBBIN_DIFFERENCE_TOO_LARGE = 4,  /* a clock jump difference is not below the number of trace rows */
+    TEALBOBBIN_CHUNK_LENGTH_ZERO = 5,     /* the chunk length is 0 */
+    TEALBOBBIN_ZERO_DENOMINATOR = 6,      /* a denominator is zero, or what is to be inverted */
+    TEALBOBBIN_UNKNOWN_COMMAND = 7,       /* a byte of a batch is no command */
+    TEALBOBBIN_BATCH_CUT_OFF = 8,         /* a batch ends too early */
+    TEALBOBBIN_COMMAND_OUT_OF_PLACE = 9,  /* a batch has a command out of place or too often, or lacks one */
+    TEALBOBBIN_COMMAND_OUT_OF_ORDER = 10, /* a batch has a command behind one that belongs after it, or a difference below the one
+                                             before it */
+    TEALBOBBIN_UNDECODABLE_ROW = 11       /* a row does not decode; strict extension alone */
 };
 
 /* p = 2^64 - 2^32 + 1 */
@@ -199,9 +200,17 @@ uint32_t tealbobbin_element_scale(uint64_t k, const uint64_t *a, size_t a_count,
  */
 uint32_t tealbobbin_element_inverse(const uint64_t *a, size_t a_count, uint64_t *out, size_t out_count);
 
+/* What a row decodes to: the first of the two words that tealbobbin_decode writes. */
+enum tealbobbin_decoded {
+    TEALBOBBIN_DECODED_UNKNOWN = 0,         /* no instruction has the opcode */
+    TEALBOBBIN_DECODED_READ = 1,            /* an instruction */
+    TEALBOBBIN_DECODED_OUTSIDE_0_TO_15 = 2, /* the instruction names an element of the stack, and its argument is not in 0 to 15 */
+    TEALBOBBIN_DECODED_OUTSIDE_1_TO_5 = 3   /* the instruction moves a number of words, and its argument is not in 1 to 5 */
+};
+
 /*
- * The instruction of `row`, a row of the main table, 39 words. Into `out`, 2 words: 1 and the opcode, or 0 and 0 where CI and NIA
- * stand for no instruction.
+ * The instruction of `row`, a row of the main table, 39 words: CI is its opcode, NIA its argument if it takes one. Into `out`, 2
+ * words: what the row decodes to, by enum tealbobbin_decoded, and the opcode, or 0 and 0 where no instruction has the opcode.
  *
  * 1: `row` or `out` has another length.
  * 2: a word of `row` is not below p.
@@ -260,7 +269,7 @@ uint32_t tealbobbin_pad(uint64_t *table, size_t table_count, size_t table_len);
 /*
  * Extends `main`, rows of 39 words, by chunks of `chunk` rows: writes the eleven columns into `aux`, row by row, 33 words a row.
  * `challenges` is a record of 189 words. `work` is room for 6 words a row, and ends as zeros. The result is the same at every
- * chunk length.
+ * chunk length. A row that does not decode brings no entry where a column asks for its instruction.
  *
  * 1: `main` is not whole rows, `aux` not 33 words or `work` not 6 for each, or `challenges` has another length.
  * 3: `main` has no row or is long in rows.
@@ -270,6 +279,17 @@ uint32_t tealbobbin_pad(uint64_t *table, size_t table_count, size_t table_len);
  */
 uint32_t tealbobbin_extend(const uint64_t *main, size_t main_count, const uint64_t *challenges, size_t challenges_count,
                            size_t chunk, uint64_t *aux, size_t aux_count, uint64_t *work, size_t work_count);
+
+/*
+ * Extends `main` as tealbobbin_extend does, with the same slices, if each of its rows decodes: row 0, the last one and padding
+ * rows too. There the two write the same.
+ *
+ * 1, 3, 5, 2: as tealbobbin_extend.
+ * 11: a row of `main` does not decode. tealbobbin_decode says why.
+ * 6: as tealbobbin_extend.
+ */
+uint32_t tealbobbin_extend_strict(const uint64_t *main, size_t main_count, const uint64_t *challenges, size_t challenges_count,
+                                  size_t chunk, uint64_t *aux, size_t aux_count, uint64_t *work, size_t work_count);
 
 /*
  * Opens a batch of at most 16384 bytes; docs/BATCH.md has the format. Into the slices go, from their start on, `trace` (1248

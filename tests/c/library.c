@@ -153,29 +153,39 @@ static void element_inverse(void)
     REFUSED(6, tealbobbin_element_inverse(zero, ELEMENT, out, ELEMENT));
 }
 
-/* Instructions: 73 is read_io, with an argument from 1 to 5; 2^8 + 73 is no opcode. */
+/* Halt, 0, takes no argument; push, 1, any word; dup, 33, takes 0 to 15; read_io, 73, 1 to 5. What does not decode comes last. */
+static const struct {
+    uint64_t ci, nia, decoded, opcode;
+} decodings[] = {
+    {0, P - 1, TEALBOBBIN_DECODED_READ, 0},
+    {1, P - 1, TEALBOBBIN_DECODED_READ, 1},
+    {33, 0, TEALBOBBIN_DECODED_READ, 33},
+    {33, 15, TEALBOBBIN_DECODED_READ, 33},
+    {73, 1, TEALBOBBIN_DECODED_READ, 73},
+    {73, 5, TEALBOBBIN_DECODED_READ, 73},
+    {33, 16, TEALBOBBIN_DECODED_OUTSIDE_0_TO_15, 33},
+    {33, UINT64_C(1) << 32, TEALBOBBIN_DECODED_OUTSIDE_0_TO_15, 33},
+    {73, 0, TEALBOBBIN_DECODED_OUTSIDE_1_TO_5, 73},
+    {73, 6, TEALBOBBIN_DECODED_OUTSIDE_1_TO_5, 73},
+    {73, (UINT64_C(1) << 32) + 1, TEALBOBBIN_DECODED_OUTSIDE_1_TO_5, 73},
+    {7, 0, TEALBOBBIN_DECODED_UNKNOWN, 0},
+    {256 + 73, 5, TEALBOBBIN_DECODED_UNKNOWN, 0},
+    {(UINT64_C(1) << 32) + 33, 16, TEALBOBBIN_DECODED_UNKNOWN, 0},
+    {P - 1, 16, TEALBOBBIN_DECODED_UNKNOWN, 0},
+};
+enum { DECODABLE = 6 };
 
 static void decode(void)
 {
     uint64_t *row = lend_zeros(ROW + 1), *out = lend(3);
-    row[CI] = 73;
-    row[NIA] = 5;
-    DONE(tealbobbin_decode(row, ROW, out, 2));
-    HOLDS(out, 1, 73);
-    KEPT(row);
-    row[NIA] = 6;
-    DONE(tealbobbin_decode(row, ROW, out, 2));
-    HOLDS(out, 0, 0);
-    row[NIA] = 0;
-    DONE(tealbobbin_decode(row, ROW, out, 2));
-    HOLDS(out, 0, 0);
-    row[CI] = 0;
-    DONE(tealbobbin_decode(row, ROW, out, 2));
-    HOLDS(out, 1, 0);
-    row[CI] = 256 + 73;
-    row[NIA] = 5;
-    DONE(tealbobbin_decode(row, ROW, out, 2));
-    HOLDS(out, 0, 0);
+    for (size_t r = 0; r < COUNT(decodings); r++) {
+        row[CI] = decodings[r].ci;
+        row[NIA] = decodings[r].nia;
+        DONE(tealbobbin_decode(row, ROW, out, 2));
+        HOLDS(out, decodings[r].decoded, decodings[r].opcode);
+        KEPT(row);
+        TRUE((decodings[r].decoded == 1) == (r < DECODABLE));
+    }
     for (size_t i = 0; i < ROW; i++) {
         uint64_t word = row[i];
         row[i] = P;
@@ -441,7 +451,10 @@ static uint64_t *lend_record(uint64_t word)
     return record;
 }
 
-static void extend(void)
+typedef uint32_t extension(const uint64_t *, size_t, const uint64_t *, size_t, size_t, uint64_t *, size_t, uint64_t *, size_t);
+
+/* Of tables whose rows decode. */
+static void of_a_table(extension *call)
 {
     uint64_t *table = lend_zeros(MAIN + 1), *record = lend_record(2), *aux = lend(AUX + 1), *work = lend(WORK + 1);
 
@@ -454,7 +467,7 @@ static void extend(void)
     for (size_t c = 0; c < COUNT(chunks); c++) {
         make_stale(aux, AUX);
         make_stale(work, WORK);
-        DONE(tealbobbin_extend(table, MAIN, record, RECORD, chunks[c], aux, AUX, work, WORK));
+        DONE(call(table, MAIN, record, RECORD, chunks[c], aux, AUX, work, WORK));
         HOLDS_WORDS(aux, due, AUX);
         HOLDS_WORDS(work, zeros, WORK);
         KEPT(table);
@@ -468,35 +481,35 @@ static void extend(void)
     io[NIA] = 2;
     io[ROW + ST0] = 5;
     io[ROW + ST1] = 7;
-    DONE(tealbobbin_extend(io, MAIN, ten, RECORD, 4, aux, AUX, work, WORK));
+    DONE(call(io, MAIN, ten, RECORD, 4, aux, AUX, work, WORK));
     TRUE(last[ELEMENT * TEALBOBBIN_AUX_INPUT_TABLE_EVAL_ARG] == 175);
     TRUE(last[ELEMENT * TEALBOBBIN_AUX_OUTPUT_TABLE_EVAL_ARG] == 1);
     io[CI] = 19;
     io[ST0] = 5;
     io[ST1] = 7;
-    DONE(tealbobbin_extend(io, MAIN, ten, RECORD, 4, aux, AUX, work, WORK));
+    DONE(call(io, MAIN, ten, RECORD, 4, aux, AUX, work, WORK));
     TRUE(last[ELEMENT * TEALBOBBIN_AUX_INPUT_TABLE_EVAL_ARG] == 1);
     TRUE(last[ELEMENT * TEALBOBBIN_AUX_OUTPUT_TABLE_EVAL_ARG] == 157);
 
     make_stale(aux, AUX);
     make_stale(work, WORK);
     uint64_t *stale = lend(MAIN + 1);
-    REFUSED(1, tealbobbin_extend(stale, MAIN - 1, record, RECORD, 0, aux, AUX, work, WORK));
-    REFUSED(1, tealbobbin_extend(stale, MAIN + 1, record, RECORD, 0, aux, AUX, work, WORK));
-    REFUSED(1, tealbobbin_extend(stale, ROW, record, RECORD, 0, aux, AUX, work, WORK));
-    REFUSED(1, tealbobbin_extend(stale, MAIN, record, RECORD - 1, 0, aux, AUX, work, WORK));
-    REFUSED(1, tealbobbin_extend(stale, MAIN, record, RECORD + 1, 0, aux, AUX, work, WORK));
-    REFUSED(1, tealbobbin_extend(stale, MAIN, record, RECORD, 0, aux, AUX - 1, work, WORK));
-    REFUSED(1, tealbobbin_extend(stale, MAIN, record, RECORD, 0, aux, AUX + 1, work, WORK));
-    REFUSED(1, tealbobbin_extend(stale, MAIN, record, RECORD, 0, aux, AUX, work, WORK - 1));
-    REFUSED(1, tealbobbin_extend(stale, MAIN, record, RECORD, 0, aux, AUX, work, WORK + 1));
-    REFUSED(1, tealbobbin_extend(NULL, 0, record, RECORD - 1, 0, NULL, 0, NULL, 0));
+    REFUSED(1, call(stale, MAIN - 1, record, RECORD, 0, aux, AUX, work, WORK));
+    REFUSED(1, call(stale, MAIN + 1, record, RECORD, 0, aux, AUX, work, WORK));
+    REFUSED(1, call(stale, ROW, record, RECORD, 0, aux, AUX, work, WORK));
+    REFUSED(1, call(stale, MAIN, record, RECORD - 1, 0, aux, AUX, work, WORK));
+    REFUSED(1, call(stale, MAIN, record, RECORD + 1, 0, aux, AUX, work, WORK));
+    REFUSED(1, call(stale, MAIN, record, RECORD, 0, aux, AUX - 1, work, WORK));
+    REFUSED(1, call(stale, MAIN, record, RECORD, 0, aux, AUX + 1, work, WORK));
+    REFUSED(1, call(stale, MAIN, record, RECORD, 0, aux, AUX, work, WORK - 1));
+    REFUSED(1, call(stale, MAIN, record, RECORD, 0, aux, AUX, work, WORK + 1));
+    REFUSED(1, call(NULL, 0, record, RECORD - 1, 0, NULL, 0, NULL, 0));
 
     const size_t rows = MAX_LEN + 1;
     uint64_t *long_main = lend_many(rows * ROW), *long_aux = lend_many(rows * AUX / 2), *long_work = lend_many(rows * WORK / 2);
-    REFUSED(3, tealbobbin_extend(NULL, 0, record, RECORD, 0, NULL, 0, NULL, 0));
-    REFUSED(3, tealbobbin_extend(long_main, rows * ROW, record, RECORD, 0, long_aux, rows * AUX / 2, long_work, rows * WORK / 2));
-    REFUSED(5, tealbobbin_extend(stale, MAIN, record, RECORD, 0, aux, AUX, work, WORK));
+    REFUSED(3, call(NULL, 0, record, RECORD, 0, NULL, 0, NULL, 0));
+    REFUSED(3, call(long_main, rows * ROW, record, RECORD, 0, long_aux, rows * AUX / 2, long_work, rows * WORK / 2));
+    REFUSED(5, call(stale, MAIN, record, RECORD, 0, aux, AUX, work, WORK));
 
     /* a denominator is zero where CI is 1, and where CLK is 2 with a multiplicity; split enters its words and 4 */
     table[CI] = 1;
@@ -504,18 +517,83 @@ static void extend(void)
         uint64_t *word = i < MAIN ? table + i : record + i - MAIN;
         uint64_t kept = *word;
         *word = P;
-        REFUSED(2, tealbobbin_extend(table, MAIN, record, RECORD, 4, aux, AUX, work, WORK));
+        REFUSED(2, call(table, MAIN, record, RECORD, 4, aux, AUX, work, WORK));
         *word = kept;
     }
-    REFUSED(6, tealbobbin_extend(table, MAIN, record, RECORD, 4, aux, AUX, work, WORK));
+    REFUSED(6, call(table, MAIN, record, RECORD, 4, aux, AUX, work, WORK));
     table[CI] = 0;
     table[ROW + CLK] = 2;
-    REFUSED(6, tealbobbin_extend(table, MAIN, record, RECORD, 4, aux, AUX, work, WORK));
+    REFUSED(6, call(table, MAIN, record, RECORD, 4, aux, AUX, work, WORK));
     table[ROW + MULTIPLICITY] = 0;
-    DONE(tealbobbin_extend(table, MAIN, record, RECORD, 4, aux, AUX, work, WORK));
+    DONE(call(table, MAIN, record, RECORD, 4, aux, AUX, work, WORK));
     table[CI] = 4;
     table[ROW + ST0] = P - 3;
-    REFUSED(6, tealbobbin_extend(table, MAIN, record, RECORD, 4, aux, AUX, work, WORK));
+    REFUSED(6, call(table, MAIN, record, RECORD, 4, aux, AUX, work, WORK));
+}
+
+/* Each row that does not decode, as the first of two and as the last, which may be padding. The other one halts. */
+enum { PLACES = 4 * (COUNT(decodings) - DECODABLE) };
+
+static void put_undecodable(uint64_t *table, size_t place)
+{
+    uint64_t *row = table + place % 2 * ROW, *other = table + (place + 1) % 2 * ROW;
+    row[CI] = decodings[DECODABLE + place / 4].ci;
+    row[NIA] = decodings[DECODABLE + place / 4].nia;
+    other[CI] = other[NIA] = 0;
+    table[ROW + TEALBOBBIN_MAIN_IS_PADDING] = place / 2 % 2;
+}
+
+/* The columns that decode stay at their first value, whatever the stack holds. */
+static void extend(void)
+{
+    enum { LOOKUP = TEALBOBBIN_AUX_INSTRUCTION_LOOKUP_CLIENT_LOG_DERIVATIVE, JUMPS = TEALBOBBIN_AUX_JUMP_STACK_TABLE_PERM_ARG };
+    of_a_table(tealbobbin_extend);
+    give_back();
+    uint64_t *table = lend_zeros(MAIN), *record = lend_record(10), *aux = lend(AUX), *work = lend(WORK);
+    for (size_t i = 0; i < 16; i++)
+        table[ST0 + i] = table[ROW + ST0 + i] = 20 + i;
+    for (size_t place = 0; place < PLACES; place++) {
+        put_undecodable(table, place);
+        DONE(tealbobbin_extend(table, MAIN, record, RECORD, 4, aux, AUX, work, WORK));
+        for (size_t i = 0; i < AUX; i += ELEMENT) {
+            size_t column = i / ELEMENT % TEALBOBBIN_AUX_WIDTH;
+            if (column != LOOKUP && column != JUMPS)
+                TRUE(aux[i] == (column < TEALBOBBIN_AUX_U32_LOOKUP_CLIENT_LOG_DERIVATIVE));
+        }
+    }
+}
+
+/* 11 is answered after 1, 3, 5 and 2, and before 6: with push, 1, in a row, a denominator is zero. */
+static void extend_strict(void)
+{
+    of_a_table(tealbobbin_extend_strict);
+    give_back();
+    uint64_t *table = lend_zeros(MAIN + 1), *record = lend_record(2), *aux = lend(AUX + 1), *work = lend(WORK + 1);
+    for (size_t place = 0; place < PLACES; place++) {
+        put_undecodable(table, place);
+        REFUSED(11, tealbobbin_extend_strict(table, MAIN, record, RECORD, chunks[place % COUNT(chunks)], aux, AUX, work, WORK));
+        table[(place + 1) % 2 * ROW + CI] = 1;
+        REFUSED(1, tealbobbin_extend_strict(table, MAIN, record, RECORD, 0, aux, AUX + 1, work, WORK));
+        REFUSED(1, tealbobbin_extend_strict(table, MAIN, record, RECORD, 0, aux, AUX, work, WORK + 1));
+        REFUSED(5, tealbobbin_extend_strict(table, MAIN, record, RECORD, 0, aux, AUX, work, WORK));
+        REFUSED(11, tealbobbin_extend_strict(table, MAIN, record, RECORD, 1, aux, AUX, work, WORK));
+    }
+    for (size_t i = 0; i < MAIN + RECORD; i++) {
+        put_undecodable(table, i % PLACES);
+        uint64_t *word = i < MAIN ? table + i : record + i - MAIN;
+        uint64_t kept = *word;
+        *word = P;
+        REFUSED(2, tealbobbin_extend_strict(table, MAIN, record, RECORD, 4, aux, AUX, work, WORK));
+        *word = kept;
+    }
+    for (size_t r = 0; r < DECODABLE; r++) {
+        table[CI] = decodings[r].ci;
+        table[NIA] = decodings[r].nia;
+        table[ROW + CI] = table[ROW + NIA] = table[ROW + TEALBOBBIN_MAIN_IS_PADDING] = 0;
+        DONE(tealbobbin_extend_strict(table, MAIN, record, RECORD, 4, aux, AUX, work, WORK));
+        table[ROW + CI] = 1;
+        REFUSED(6, tealbobbin_extend_strict(table, MAIN, record, RECORD, 4, aux, AUX, work, WORK));
+    }
 }
 
 /* Batches. */
@@ -1156,6 +1234,9 @@ static const struct {
     {"extend", extend,
      {TEALBOBBIN_SLICE_LENGTH, TEALBOBBIN_ROW_COUNT, TEALBOBBIN_CHUNK_LENGTH_ZERO,
       TEALBOBBIN_WORD_NOT_BELOW_P, TEALBOBBIN_ZERO_DENOMINATOR}},
+    {"extend_strict", extend_strict,
+     {TEALBOBBIN_SLICE_LENGTH, TEALBOBBIN_ROW_COUNT, TEALBOBBIN_CHUNK_LENGTH_ZERO,
+      TEALBOBBIN_WORD_NOT_BELOW_P, TEALBOBBIN_UNDECODABLE_ROW, TEALBOBBIN_ZERO_DENOMINATOR}},
     {"open", open,
      {TEALBOBBIN_SLICE_LENGTH, TEALBOBBIN_UNKNOWN_COMMAND, TEALBOBBIN_BATCH_CUT_OFF,
       TEALBOBBIN_COMMAND_OUT_OF_PLACE, TEALBOBBIN_COMMAND_OUT_OF_ORDER, TEALBOBBIN_ROW_COUNT, TEALBOBBIN_WORD_NOT_BELOW_P}},

@@ -9,10 +9,16 @@ pub fn marks(length: usize) -> Vec<u64> {
     (0..length).map(|i| MARK + i as u64).collect()
 }
 
+/// The kinds of what decoding answers, by its first word.
+pub const DECODED: [&str; 4] = ["opcode unknown", "read", "argument outside 0 to 15", "argument outside 1 to 5"];
+
 pub struct Tally {
     name: &'static str,
     compared: u64,
-    refused: [u64; 11],
+    /// Calls by the number that was expected, 0 for success.
+    answered: [u64; 12],
+    /// Kinds of calls, each to be met at least once.
+    kinds: Vec<(&'static str, u64)>,
     different: u64,
     /// Rows of the tables that both sides wrote.
     pub rows: u64,
@@ -20,7 +26,16 @@ pub struct Tally {
 
 impl Tally {
     pub fn new(name: &'static str) -> Tally {
-        Tally { name, compared: 0, refused: [0; 11], different: 0, rows: 0 }
+        Tally { name, compared: 0, answered: [0; 12], kinds: vec![], different: 0, rows: 0 }
+    }
+
+    pub fn of_kinds(name: &'static str, kinds: &[&'static str]) -> Tally {
+        Tally { kinds: kinds.iter().map(|&kind| (kind, 0)).collect(), ..Tally::new(name) }
+    }
+
+    /// A call of the kind with this place in the list.
+    pub fn count(&mut self, kind: usize) {
+        self.kinds[kind].1 += 1;
     }
 
     /// A call's number and what the lent slice held before and holds now, against the number and the words that are expected.
@@ -30,7 +45,7 @@ impl Tally {
         T: Copy + PartialEq + Debug,
     {
         self.compared += 1;
-        self.refused[number as usize] += 1;
+        self.answered[number as usize] += 1;
         let wanted = if number == 0 { words } else { before };
         if got.0 != number || got.1 != wanted {
             let at = got.1.iter().zip(wanted).position(|(g, w)| g != w).unwrap_or(0);
@@ -47,22 +62,29 @@ impl Tally {
         }
     }
 
-    /// Each of these answers, 0 for success, is to have been expected at least once.
+    /// Each of these answers, 0 for success, is to have been expected at least once, and each kind met.
     pub fn reached(&mut self, numbers: &[usize]) {
         for &number in numbers {
-            if self.refused[number] == 0 {
+            if self.answered[number] == 0 {
                 self.differ(format!("no case for {number}"));
+            }
+        }
+        for (kind, count) in self.kinds.clone() {
+            if count == 0 {
+                self.differ(format!("no case for {kind}"));
             }
         }
     }
 
     /// One line for all that was compared; whether there was no difference.
     pub fn report(&self) -> bool {
-        let refused = (1..self.refused.len()).filter(|&n| self.refused[n] > 0).map(|n| format!("{n}: {}", self.refused[n]));
+        let refused = (1..self.answered.len()).filter(|&n| self.answered[n] > 0).map(|n| format!("{n}: {}", self.answered[n]));
         let refused: Vec<String> = refused.collect();
-        let rows = if self.rows > 0 { format!("; {} rows of tables", self.rows) } else { String::new() };
         let refused = if refused.is_empty() { "none refused".into() } else { format!("refused {}", refused.join(", ")) };
-        println!("{}: {} calls compared, {refused}{rows}; {} differences", self.name, self.compared, self.different);
+        let rows = if self.rows > 0 { format!("; {} rows of tables", self.rows) } else { String::new() };
+        let kinds: String = self.kinds.iter().map(|(kind, count)| format!("; {kind}: {count}")).collect();
+        let (name, compared, done, different) = (self.name, self.compared, self.answered[0], self.different);
+        println!("{name}: {compared} calls compared, {done} done, {refused}{rows}{kinds}; {different} differences");
         self.different == 0
     }
 }

@@ -13,7 +13,8 @@ use std::cell::Cell;
 use std::panic::{AssertUnwindSafe, catch_unwind};
 use std::sync::Once;
 
-use isa::instruction::Instruction;
+use isa::instruction::{Instruction, InstructionError};
+use isa::op_stack::{NumberOfWords, OpStackElement};
 use ndarray::prelude::*;
 use num_traits::{ConstOne, ConstZero};
 pub use tealbobbin::processor::{AUX_WIDTH, MAIN_WIDTH};
@@ -79,11 +80,48 @@ fn words(elements: &[XFieldElement]) -> Vec<u64> {
     elements.iter().flat_map(|element| element.coefficients.map(|c| c.value())).collect()
 }
 
-/// The opcode of the instruction that the row's CI and NIA stand for, if they stand for one.
-pub fn decode(ci: u64, nia: u64) -> Option<u64> {
-    let instruction = Instruction::try_from(bfe!(ci)).ok()?;
-    let read = if instruction.arg().is_some() { instruction.change_arg(bfe!(nia)).ok()? } else { instruction };
-    Some(read.opcode().into())
+/// What the row's CI and NIA stand for, in the library's words: 1 and the opcode; 0 and 0 where the original has no instruction for
+/// the opcode; where it has and refuses the argument, the word for the argument's type, and the opcode.
+pub fn decode(ci: u64, nia: u64) -> [u64; 2] {
+    let read = Instruction::try_from(bfe!(ci)).and_then(|instruction| match instruction.arg() {
+        Some(_) => instruction.change_arg(bfe!(nia)),
+        None => Ok(instruction),
+    });
+    match read {
+        Ok(instruction) => [1, instruction.opcode().into()],
+        Err(InstructionError::InvalidOpcode(_) | InstructionError::OutOfRangeOpcode(_)) => [0, 0],
+        Err(InstructionError::IllegalArgument(instruction, _)) => [class(instruction), instruction.opcode().into()],
+        Err(error) => panic!("decoding {ci} and {nia}: {error:?}"),
+    }
+}
+
+/// The word for the type that the original gives the instruction's argument.
+fn class(instruction: Instruction) -> u64 {
+    use isa::instruction::AnInstruction::*;
+    match instruction {
+        Pick(argument) | Place(argument) | Dup(argument) | Swap(argument) => word(argument),
+        Pop(argument) | Divine(argument) | ReadMem(argument) | WriteMem(argument) | ReadIo(argument) | WriteIo(argument) => {
+            word(argument)
+        }
+        other => panic!("{other:?} takes no such argument"),
+    }
+}
+
+fn word<T: Argument>(_: T) -> u64 {
+    T::OUTSIDE
+}
+
+/// An argument's type, with the library's word for what is outside of it.
+trait Argument {
+    const OUTSIDE: u64;
+}
+
+impl Argument for OpStackElement {
+    const OUTSIDE: u64 = 2;
+}
+
+impl Argument for NumberOfWords {
+    const OUTSIDE: u64 = 3;
 }
 
 /// All 63 challenges, from the sampled ones and the claim.

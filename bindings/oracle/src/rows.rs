@@ -5,6 +5,7 @@ use compare::plain::extension::opcode::*;
 use compare::plain::extension::{COLUMNS, Challenges, Kind};
 use compare::plain::{Element, pad};
 use compare::random::Random;
+use compare::rows::mend;
 use tealbobbin::field::P;
 
 pub const IB0: usize = 5;
@@ -69,8 +70,13 @@ pub fn any_row(random: &mut Random) -> Vec<u64> {
     row(random, ci, nia, is_padding)
 }
 
+/// Of two tables, one decodes throughout.
 pub fn any_table(random: &mut Random, rows: usize) -> Vec<u64> {
-    (0..rows).flat_map(|_| any_row(random)).collect()
+    let mut table: Vec<u64> = (0..rows).flat_map(|_| any_row(random)).collect();
+    if random.word() % 2 == 0 {
+        mend(random, &mut table);
+    }
+    table
 }
 
 /// 63 elements: any, or base elements, or small ones.

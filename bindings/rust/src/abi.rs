@@ -65,6 +65,17 @@ mod raw {
             work: *mut u64,
             wl: usize,
         ) -> u32;
+        pub fn tealbobbin_extend_strict(
+            main: *const u64,
+            ml: usize,
+            challenges: *const u64,
+            cl: usize,
+            chunk: usize,
+            aux: *mut u64,
+            al: usize,
+            work: *mut u64,
+            wl: usize,
+        ) -> u32;
         pub fn tealbobbin_open(
             bytes: *const u8,
             bl: usize,
@@ -176,6 +187,28 @@ macro_rules! scans {
     )* };
 }
 
+macro_rules! extensions {
+    ($($(#[$meaning:meta])* $name:ident = $raw:ident),* $(,)?) => { $(
+        $(#[$meaning])*
+        #[must_use]
+        pub fn $name(main: &[u64], challenges: &[u64], chunk: usize, aux: &mut [u64], work: &mut [u64]) -> u32 {
+            unsafe {
+                raw::$raw(
+                    main.as_ptr(),
+                    main.len(),
+                    challenges.as_ptr(),
+                    challenges.len(),
+                    chunk,
+                    aux.as_mut_ptr(),
+                    aux.len(),
+                    work.as_mut_ptr(),
+                    work.len(),
+                )
+            }
+        }
+    )* };
+}
+
 of_two_words! {
     /// a + b modulo p.
     base_add = tealbobbin_base_add,
@@ -203,6 +236,13 @@ scans! {
     scan_sums = tealbobbin_scan_sums,
 }
 
+extensions! {
+    /// The eleven columns of `main` into `aux`.
+    extend = tealbobbin_extend,
+    /// The same, if every row of `main` decodes.
+    extend_strict = tealbobbin_extend_strict,
+}
+
 /// 1 / a modulo p.
 #[must_use]
 pub fn base_inverse(a: u64, out: &mut [u64]) -> u32 {
@@ -221,7 +261,8 @@ pub fn element_inverse(a: &[u64], out: &mut [u64]) -> u32 {
     unsafe { raw::tealbobbin_element_inverse(a.as_ptr(), a.len(), out.as_mut_ptr(), out.len()) }
 }
 
-/// Into `out` goes 1 and the opcode, or 0 and 0 where the row decodes to nothing.
+/// Into `out` goes 1 and the opcode; 0 and 0 where no instruction has it; or 2 or 3 and the opcode where its argument is not in 0
+/// to 15 or in 1 to 5.
 #[must_use]
 pub fn decode(row: &[u64], out: &mut [u64]) -> u32 {
     unsafe { raw::tealbobbin_decode(row.as_ptr(), row.len(), out.as_mut_ptr(), out.len()) }
@@ -269,24 +310,6 @@ pub fn fill(trace: &[u64], op_stack: &[u64], ram: &[u64], jump_stack: &[u64], ta
 #[must_use]
 pub fn pad(table: &mut [u64], table_len: usize) -> u32 {
     unsafe { raw::tealbobbin_pad(table.as_mut_ptr(), table.len(), table_len) }
-}
-
-/// The eleven columns of `main` into `aux`.
-#[must_use]
-pub fn extend(main: &[u64], challenges: &[u64], chunk: usize, aux: &mut [u64], work: &mut [u64]) -> u32 {
-    unsafe {
-        raw::tealbobbin_extend(
-            main.as_ptr(),
-            main.len(),
-            challenges.as_ptr(),
-            challenges.len(),
-            chunk,
-            aux.as_mut_ptr(),
-            aux.len(),
-            work.as_mut_ptr(),
-            work.len(),
-        )
-    }
 }
 
 /// A batch into the slices: trace, op stack, RAM, jump stack, sampled, digest, input, output. Into `counts` go those of rows, op

@@ -33,7 +33,8 @@
 //! }
 //! ```
 //!
-//! [`processor`] has an example of rows built by hand, [`batch`] one of a batch that is filled, written and opened again.
+//! [`processor`] has an example of rows built by hand, [`batch`] one of a batch that is filled, written and opened again, and
+//! [`isa`] says why a row does not decode.
 //!
 //! A word is a `u64` below [`field::P`], an [`Element`](field::Element) three of them. Rows, elements and challenges are types over
 //! their words, which are lent to the library where they lie, without a copy. A function that turns its input away answers with a

@@ -128,7 +128,7 @@ pub fn pad(table: &mut [MainRow], table_len: usize) -> Result<(), Refusal> {
 }
 
 /// Writes the main table's eleven columns into `aux`, by chunks of any positive length: the result is the same at each. `work` ends
-/// as zeros.
+/// as zeros. A row that does not decode brings no entry where a column asks for its instruction; [`extend_strict`] refuses it.
 ///
 /// # Errors
 ///
@@ -143,6 +143,48 @@ pub fn extend(
     work: &mut [u64],
 ) -> Result<(), Refusal> {
     answer(abi::extend(words(main), words(from_ref(challenges)), chunk, words_mut(aux), work), ())
+}
+
+/// [`extend`] of a table whose rows all decode: row 0, the last one and padding rows too.
+///
+/// ```
+/// use tealbobbin::air::ProcessorMainColumn::{CI, NIA};
+/// # use tealbobbin::challenges::{Challenges, Claim, SampledChallenges};
+/// # use tealbobbin::field::Element;
+/// use tealbobbin::isa::{decode, Decoded};
+/// use tealbobbin::processor::{extend_strict, AuxRow, MainRow, WORK_WIDTH};
+/// use tealbobbin::Refusal;
+///
+/// # let sampled = SampledChallenges([Element::from(2); Challenges::SAMPLE_COUNT]);
+/// # let challenges = Challenges::new(&sampled, Claim { program_digest: [0; 5], input: &[], output: &[] })?;
+/// let mut table = [MainRow::ZERO; 2];
+/// (table[1][CI], table[1][NIA]) = (33, 16);
+/// let (mut aux, mut work) = ([AuxRow::ZERO; 2], [0; 2 * WORK_WIDTH]);
+/// assert_eq!(extend_strict(&table, &challenges, 4, &mut aux, &mut work), Err(Refusal::UndecodableRow));
+///
+/// let mut said = vec![];
+/// for (index, row) in table.iter().enumerate() {
+///     match decode(row)? {
+///         Decoded::Read(_) => {}
+///         reason => said.push(format!("row {index}: {reason}")),
+///     }
+/// }
+/// assert_eq!(said, ["row 1: argument 16 of dup is not in 0 to 15"]);
+/// # Ok::<(), Refusal>(())
+/// ```
+///
+/// # Errors
+///
+/// As [`extend`], and [`Refusal::UndecodableRow`] if a row does not decode, after [`Refusal::WordNotBelowP`] and before
+/// [`Refusal::ZeroDenominator`].
+pub fn extend_strict(
+    main: &[MainRow],
+    challenges: &Challenges,
+    chunk: usize,
+    aux: &mut [AuxRow],
+    work: &mut [u64],
+) -> Result<(), Refusal> {
+    answer(abi::extend_strict(words(main), words(from_ref(challenges)), chunk, words_mut(aux), work), ())
 }
 
 #[cfg(test)]
@@ -182,6 +224,38 @@ mod tests {
         assert_eq!(aux.map(|row| row[OutputTableEvalArg]), [1, 157].map(Element::from));
         assert_eq!(aux.map(|row| row[InputTableEvalArg]), [Element::ONE; 2]);
         assert_eq!(work, [0; 2 * WORK_WIDTH]);
+    }
+
+    type Extend = fn(&[MainRow], &Challenges, usize, &mut [AuxRow], &mut [u64]) -> Result<(), Refusal>;
+
+    #[test]
+    fn strictly() {
+        let mut table = [MainRow::ZERO; 3];
+        (table[0][CI], table[0][NIA], table[0][ST0]) = (19, 1, 5);
+        pad(&mut table, 2).unwrap();
+        let extended = |extend: Extend, table: &[MainRow]| {
+            let (mut aux, mut work) = ([AuxRow::ZERO; 3], [1; 3 * WORK_WIDTH]);
+            let answer = extend(table, &challenges(), 2, &mut aux, &mut work);
+            (answer, aux, work)
+        };
+        assert_eq!(extended(extend_strict, &table), extended(extend, &table));
+        assert_eq!(extended(extend_strict, &table).1[2][OutputTableEvalArg], Element::from(15));
+        let refused = |refusal| (Err(refusal), [AuxRow::ZERO; 3], [1; 3 * WORK_WIDTH]);
+        for row in 0..3 {
+            for (ci, nia) in [(7, 0), (33, 16), (73, 0)] {
+                let (mut table, other) = (table, (row + 1) % 3);
+                (table[row][CI], table[row][NIA]) = (ci, nia);
+                assert_eq!(extended(extend_strict, &table), refused(Refusal::UndecodableRow));
+                assert_eq!(extended(extend, &table).0, Ok(()));
+                // 10 - (10·IP + 10·CI + 10·NIA)
+                table[other] = MainRow::ZERO;
+                table[other][IP] = 1;
+                assert_eq!(extended(extend, &table), refused(Refusal::ZeroDenominator));
+                assert_eq!(extended(extend_strict, &table), refused(Refusal::UndecodableRow));
+                table[row][HV0] = P;
+                assert_eq!(extended(extend_strict, &table), refused(Refusal::WordNotBelowP));
+            }
+        }
     }
 
     #[test]

@@ -82,6 +82,9 @@ refusals! {
     /// 10: a batch has a command behind one that belongs after it, or a difference below the one before it.
     CommandOutOfOrder = 10, "the batch has a command behind one that belongs after it, or a difference below the one before it (the \
         order is 01, 07, all 08, all 09, 06, all 02, all 03, all 04, all 05, 00, each list of differences not descending)";
+    /// 11: a row does not decode; of [`extend_strict`](crate::processor::extend_strict) alone.
+    UndecodableRow = 11, "a row of the main table does not decode (isa::decode says of each row what it decodes to, or why not; \
+        processor::extend takes such rows)";
 }
 
 impl Error for Refusal {}
@@ -108,7 +111,7 @@ mod tests {
         for number in (1..=20).chain([u32::MAX]) {
             let refusal = Refusal::from_number(number).unwrap();
             assert_eq!(refusal.number(), number);
-            assert_eq!(matches!(refusal, Refusal::Other { .. }), number > 10);
+            assert_eq!(matches!(refusal, Refusal::Other { .. }), number > 11);
             assert!(refusal.to_string().starts_with(&std::format!("refused {number}: ")));
         }
     }
@@ -120,6 +123,11 @@ mod tests {
         says(
             Refusal::WordNotBelowP,
             "refused 2: a word is not below p = 18446744069414584321 (reduce every word modulo p before handing it over)",
+        );
+        says(
+            Refusal::UndecodableRow,
+            "refused 11: a row of the main table does not decode (isa::decode says of each row what it decodes to, or why not; \
+             processor::extend takes such rows)",
         );
         says(
             Refusal::Other { number: 17 },

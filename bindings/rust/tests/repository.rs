@@ -4,6 +4,7 @@ use tealbobbin::air::{ChallengeId, ProcessorAuxColumn, ProcessorMainColumn};
 use tealbobbin::batch::Batch;
 use tealbobbin::challenges::{Challenges, Claim, SampledChallenges};
 use tealbobbin::field::Element;
+use tealbobbin::isa::name;
 use tealbobbin::processor::{ClkJumpDiffs, MainRow};
 use tealbobbin::Refusal;
 
@@ -12,11 +13,12 @@ const NAMES: &str = include_str!("../../../crates/list_names/stdout");
 
 #[test]
 fn names_and_places() {
+    let instructions = (0..256).filter_map(|opcode| Some(format!("instruction {} {opcode}", name(opcode)?)));
     let main = ProcessorMainColumn::ALL.map(|column| format!("main {column} {}", column.main_index()));
     let auxiliary = ProcessorAuxColumn::ALL.map(|column| format!("auxiliary {column} {}", column.aux_index()));
     let challenges = ChallengeId::ALL.map(|id| format!("challenge {id} {}", id.index()));
-    let ours = [main.as_slice(), &auxiliary, &challenges].concat();
-    let theirs: Vec<&str> = NAMES.lines().filter(|line| !line.starts_with("instruction ")).collect();
+    let ours: Vec<String> = instructions.chain(main).chain(auxiliary).chain(challenges).collect();
+    let theirs: Vec<&str> = NAMES.lines().collect();
     assert_eq!(ours, theirs);
     assert_eq!((Challenges::COUNT, Challenges::SAMPLE_COUNT), (63, 59));
 }

@@ -1,58 +1,104 @@
-// The names of instructions, columns and challenges, as the Rust has them, in ASCII. A name belongs to the constant in its line of the list beside it.
+// The names of instructions, columns and challenges, as the Rust has them, in ASCII. A name of a column or challenge belongs to the constant in its line of the list beside it.
 use air::AuxIndex;
 use air::ChallengeId;
 use air::MainIndex;
 use isa::Instruction;
-ghost use Prim.Native.Nat.{_*_, _<_, _≤_};
-ghost use lib.ListN.{length};
+ghost use mathlib.Core.Path.{_≡_};
+ghost use Prim.Native.Nat.{_≤_};
+ghost use lib.ListN.{length, take};
+ghost use Rattle.air_names.specs.Name.{Named, beforeSpace};
+ghost use Rattle.air_names.specs.Instruction.{nameOf, Listed};
 
-// In the order of `slot`.
-const INSTRUCTIONS: [u8; 46 * 17] = *b"\
-    push             \
-    pop              \
-    divine           \
-    pick             \
-    place            \
-    dup              \
-    swap             \
+// By opcode; - is the line of a number that is none.
+const INSTRUCTIONS: [u8; 89 * 17] = *b"\
     halt             \
-    nop              \
+    push             \
     skiz             \
-    call             \
-    return           \
-    recurse          \
-    recurse_or_return\
-    assert           \
-    read_mem         \
-    write_mem        \
-    hash             \
-    assert_vector    \
-    sponge_init      \
-    sponge_absorb    \
-    sponge_absorb_mem\
-    sponge_squeeze   \
-    add              \
-    addi             \
-    mul              \
-    invert           \
-    eq               \
+    pop              \
     split            \
+    -                \
     lt               \
-    and              \
-    xor              \
+    -                \
+    nop              \
+    divine           \
+    assert           \
+    write_mem        \
     log_2_floor      \
-    pow              \
-    div_mod          \
-    pop_count        \
-    xx_add           \
-    xx_mul           \
-    x_invert         \
-    xb_mul           \
-    read_io          \
+    -                \
+    and              \
+    -                \
+    return           \
+    pick             \
+    hash             \
     write_io         \
+    div_mod          \
+    -                \
+    xor              \
+    -                \
+    recurse          \
+    place            \
+    assert_vector    \
+    -                \
+    pop_count        \
+    -                \
+    pow              \
+    -                \
+    recurse_or_return\
+    dup              \
+    sponge_absorb    \
+    -                \
     merkle_step      \
+    -                \
+    -                \
+    -                \
+    sponge_init      \
+    swap             \
+    add              \
+    -                \
     merkle_step_mem  \
+    -                \
+    -                \
+    -                \
+    sponge_absorb_mem\
+    call             \
+    mul              \
+    -                \
+    -                \
+    -                \
+    -                \
+    -                \
+    sponge_squeeze   \
+    read_mem         \
+    eq               \
+    -                \
+    -                \
+    -                \
+    -                \
+    -                \
+    invert           \
+    addi             \
+    xx_add           \
+    -                \
+    -                \
+    -                \
+    -                \
+    -                \
+    x_invert         \
+    read_io          \
+    xx_mul           \
+    -                \
+    -                \
+    -                \
+    -                \
+    -                \
     xx_dot_step      \
+    -                \
+    xb_mul           \
+    -                \
+    -                \
+    -                \
+    -                \
+    -                \
     xb_dot_step      ";
 
 // In the order of `main_columns`.
@@ -316,7 +362,9 @@ const NO_NAME: Name = Name {
 };
 
 // The bytes before the first space.
-fn name_of(text: &[u8]) -> Name {
+fn name_of(text: &[u8]) -> Name
+    ensures { λ r. ⌜ Named r (beforeSpace (take 48 (now (text .entry)))) ⌝ }
+{
     let mut bytes = [0u8; 48];
     let mut length: usize = 0;
     while length < 48 {
@@ -346,63 +394,21 @@ fn position(places: &[usize], place: usize) -> usize
     i
 }
 
-fn slot(i: Instruction) -> usize
-    ensures { λ r. ⌜ r < 46 ⌝ }
+// Each instruction's name, in the line of its opcode.
+fn instructions() -> [u8; 89 * 17]
+    ensures { λ r. ⌜ Listed r ⌝ }
 {
-    match i {
-        Instruction::Push(_) => 0,
-        Instruction::Pop(_) => 1,
-        Instruction::Divine(_) => 2,
-        Instruction::Pick(_) => 3,
-        Instruction::Place(_) => 4,
-        Instruction::Dup(_) => 5,
-        Instruction::Swap(_) => 6,
-        Instruction::Halt => 7,
-        Instruction::Nop => 8,
-        Instruction::Skiz => 9,
-        Instruction::Call(_) => 10,
-        Instruction::Return => 11,
-        Instruction::Recurse => 12,
-        Instruction::RecurseOrReturn => 13,
-        Instruction::Assert => 14,
-        Instruction::ReadMem(_) => 15,
-        Instruction::WriteMem(_) => 16,
-        Instruction::Hash => 17,
-        Instruction::AssertVector => 18,
-        Instruction::SpongeInit => 19,
-        Instruction::SpongeAbsorb => 20,
-        Instruction::SpongeAbsorbMem => 21,
-        Instruction::SpongeSqueeze => 22,
-        Instruction::Add => 23,
-        Instruction::AddI(_) => 24,
-        Instruction::Mul => 25,
-        Instruction::Invert => 26,
-        Instruction::Eq => 27,
-        Instruction::Split => 28,
-        Instruction::Lt => 29,
-        Instruction::And => 30,
-        Instruction::Xor => 31,
-        Instruction::Log2Floor => 32,
-        Instruction::Pow => 33,
-        Instruction::DivMod => 34,
-        Instruction::PopCount => 35,
-        Instruction::XxAdd => 36,
-        Instruction::XxMul => 37,
-        Instruction::XInvert => 38,
-        Instruction::XbMul => 39,
-        Instruction::ReadIo(_) => 40,
-        Instruction::WriteIo(_) => 41,
-        Instruction::MerkleStep => 42,
-        Instruction::MerkleStepMem => 43,
-        Instruction::XxDotStep => 44,
-        Instruction::XbDotStep => 45,
-    }
+    INSTRUCTIONS
 }
 
-pub fn instruction(i: Instruction) -> Name {
-    let at = slot(i) * 17;
+pub fn instruction(i: Instruction) -> Name
+    ensures name { λ r. ⌜ Named r (nameOf i) ⌝ }
+    ensures short { λ r. ⌜ r .length ≤ 17 ⌝ }
+{
+    let names = instructions();
+    let at = isa::opcode(i) as usize * 17;
     let end = at + 17;
-    name_of(&INSTRUCTIONS[at..end])
+    name_of(&names[at..end])
 }
 
 // No name for a number that is no place.

@@ -1,2 +1,3 @@
--- Why what a batch brings fits.
+-- Why what a batch brings fits, and where its counts lie.
 pub mod Room
+pub mod Opened

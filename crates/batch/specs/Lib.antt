@@ -1,2 +1,3 @@
 -- What opening a batch answers and leaves.
 pub mod Open
+pub mod Lent

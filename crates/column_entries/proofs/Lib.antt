@@ -4,3 +4,4 @@ pub mod Absorbing
 pub mod Products
 pub mod Fractions
 pub mod AuxRow
+pub mod Unread

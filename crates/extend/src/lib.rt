@@ -5,8 +5,11 @@ use extend_table::unchecked::write_cells;
 use refusal::Answer;
 ghost use mathlib.Core.Path.{_≡_};
 ghost use lib.ListN.{length, replicate};
+ghost use Rattle.refusal.specs.Number.{onDone};
+ghost use Rattle.extend_table.specs.Extended.{extended};
 ghost use Rattle.extend_answer.specs.Answer.{extendAnswer};
-ghost use Rattle.extend.specs.Extend.{extendAux, extendWork};
+ghost use Rattle.extend_answer.specs.Strict.{strictAnswer, answerIn};
+ghost use Rattle.extend.specs.Extend.{extendAux, extendWork, strictAux, strictWork};
 
 // Writes every cell and leaves zeros in `work`, or writes nothing where it refuses. The cells don't depend on the chunk length.
 pub fn extend(
@@ -20,7 +23,37 @@ pub fn extend(
     ensures extended { λ r. ⌜ now (aux .exit) ≡ extendAux (now (main .entry)) (now (challenges .entry)) chunk (now (aux .entry)) (now (work .entry)) ⌝ }
     ensures cleared { λ r. ⌜ now (work .exit) ≡ extendWork (now (main .entry)) (now (challenges .entry)) chunk (now (aux .entry)) (now (work .entry)) ⌝ }
 {
-    let answer = extend_answer(main, challenges, chunk, aux, work);
+    extended_or_refused(false, main, challenges, chunk, aux, work)
+}
+
+// The same, but that it refuses a table with a row that does not decode.
+pub fn extend_strict(
+    main: &[u64],
+    challenges: &[u64],
+    chunk: usize,
+    aux: &mut [u64],
+    work: &mut [u64],
+) -> Answer
+    ensures answer { λ r. ⌜ r ≡ strictAnswer (now (main .entry)) (now (challenges .entry)) chunk (now (aux .entry)) (now (work .entry)) ⌝ }
+    ensures extended { λ r. ⌜ now (aux .exit) ≡ strictAux (now (main .entry)) (now (challenges .entry)) chunk (now (aux .entry)) (now (work .entry)) ⌝ }
+    ensures cleared { λ r. ⌜ now (work .exit) ≡ strictWork (now (main .entry)) (now (challenges .entry)) chunk (now (aux .entry)) (now (work .entry)) ⌝ }
+{
+    extended_or_refused(true, main, challenges, chunk, aux, work)
+}
+
+fn extended_or_refused(
+    strict: bool,
+    main: &[u64],
+    challenges: &[u64],
+    chunk: usize,
+    aux: &mut [u64],
+    work: &mut [u64],
+) -> Answer
+    ensures answer { λ r. ⌜ r ≡ answerIn strict (now (main .entry)) (now (challenges .entry)) chunk (now (aux .entry)) (now (work .entry)) ⌝ }
+    ensures extended { λ r. ⌜ now (aux .exit) ≡ onDone r (extended (now (main .entry)) (now (challenges .entry))) (now (aux .entry)) ⌝ }
+    ensures cleared { λ r. ⌜ now (work .exit) ≡ onDone r (replicate (length (now (work .entry))) 0) (now (work .entry)) ⌝ }
+{
+    let answer = extend_answer(strict, main, challenges, chunk, aux, work);
     match answer {
         Answer::Refused(refusal) => Answer::Refused(refusal),
         Answer::Done => {

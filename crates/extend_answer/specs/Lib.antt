@@ -1,2 +1,4 @@
 -- What extension answers.
 pub mod Answer
+pub mod Strict
+pub mod RowsAnswer

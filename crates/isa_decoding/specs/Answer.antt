@@ -11,7 +11,9 @@ use Rattle.refusal.specs.declared.Refusal.the-variants.{SliceLength, WordNotBel
 use Rattle.isa.specs.Instruction.{opcodeOf}
 use Rattle.isa_decoding.specs.Decode.{decoded}
 use Rattle.isa_decoding.specs.declared.Decoded.{Decoded}
-use Rattle.isa_decoding.specs.declared.Decoded.the-variants.{Read, Nothing}
+use Rattle.isa_decoding.specs.declared.Decoded.the-variants.{Read, Unknown, Outside}
+use Rattle.isa_decoding.specs.declared.Class.{Class}
+use Rattle.isa_decoding.specs.declared.Class.the-variants.{StackElement, NumberOfWords}
 use Rattle.isa_decoding.specs.declared.DecodeAnswer.{DecodeAnswer}
 use Rattle.isa_decoding.specs.declared.DecodeAnswer.the-variants.{Refused, Row}
 
@@ -26,10 +28,16 @@ abbrev pub answerNumber : DecodeAnswer → ℕ
 answerNumber (Refused r) = numberOf r
 answerNumber (Row d) = 0
 
--- its two words: 1 and the opcode, or 0 and 0 where nothing was read
+-- the first word where the argument is outside of the class
+abbrev pub classWord : Class → ℕ
+classWord StackElement = 2
+classWord NumberOfWords = 3
+
+-- its two words: 1 and the opcode; 0 and 0 for an opcode that is none; 2 or 3 and the opcode for an argument outside 0 to 15 or 1 to 5
 abbrev pub decodedWords : Decoded → List ℕ
 decodedWords (Read i) = 1 ∷ opcodeOf i ∷ []
-decodedWords Nothing = 0 ∷ 0 ∷ []
+decodedWords Unknown = 0 ∷ 0 ∷ []
+decodedWords (Outside c i) = classWord c ∷ opcodeOf i ∷ []
 
 -- what the slice for them holds afterwards: on a refusal, what it held
 abbrev pub answerWords : DecodeAnswer → List ℕ → List ℕ

@@ -3,11 +3,12 @@ use mathlib.Core.Bool.{cond}
 use mathlib.Core.List.{List, [], _∷_}
 use Prim.Native.Nat.{ℕ}
 use lib.Dec.{eqb}
-use Rattle.isa.specs.Instruction.{Argument, allowed, kind, opcodeOf}
+use Rattle.isa.specs.Instruction.{Argument, none, anyWord, stackElement, numberOfWords, allowed, kind, opcodeOf}
 use Rattle.isa.specs.declared.Instruction.{Instruction}
 use Rattle.isa.specs.declared.Instruction.the-variants.{Push, Pop, Divine, Pick, Place, Dup, Swap, Halt, Nop, Skiz, Call, Return, Recurse, RecurseOrReturn, Assert, ReadMem, WriteMem, Hash, AssertVector, SpongeInit, SpongeAbsorb, SpongeAbsorbMem, SpongeSqueeze, Add, AddI, Mul, Invert, Eq, Split, Lt, And, Xor, Log2Floor, Pow, DivMod, PopCount, XxAdd, XxMul, XInvert, XbMul, ReadIo, WriteIo, MerkleStep, MerkleStepMem, XxDotStep, XbDotStep}
 use Rattle.isa_decoding.specs.declared.Decoded.{Decoded}
-use Rattle.isa_decoding.specs.declared.Decoded.the-variants.{Read, Nothing}
+use Rattle.isa_decoding.specs.declared.Decoded.the-variants.{Read, Unknown, Outside}
+use Rattle.isa_decoding.specs.declared.Class.the-variants.{StackElement, NumberOfWords}
 
 -- every instruction, with n as its argument if it takes one
 abbrev pub instructions : ℕ → List Instruction
@@ -23,13 +24,16 @@ instructions n =
     MerkleStep ∷ MerkleStepMem ∷ XxDotStep ∷ XbDotStep ∷
     []
 
--- the instruction, if its argument is allowed
+-- the instruction, if its argument is allowed; else the class that the argument is outside of
 abbrev pub checked : Argument → Instruction → Decoded
-checked a i = cond (allowed a) (Read i) Nothing
+checked none i = Read i
+checked (anyWord n) i = Read i
+checked (stackElement n) i = cond (allowed (stackElement n)) (Read i) (Outside StackElement i)
+checked (numberOfWords n) i = cond (allowed (numberOfWords n)) (Read i) (Outside NumberOfWords i)
 
 -- the first instruction of a list with the opcode k
 abbrev pub find : ℕ → List Instruction → Decoded
-find k [] = Nothing
+find k [] = Unknown
 find k (i ∷ is) = cond (eqb k (opcodeOf i)) (checked (kind i .argument) i) (find k is)
 
 unfoldable pub decoded : ℕ → ℕ → Decoded

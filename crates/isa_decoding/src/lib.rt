@@ -11,7 +11,18 @@ ghost use Rattle.isa_decoding.specs.Answer.{decodeAnswer};
 // What the words CI and NIA stand for.
 pub enum Decoded {
     Read(Instruction),
-    Nothing,
+    // No instruction has the opcode.
+    Unknown,
+    // The instruction's argument is not in its class.
+    Outside(Class, Instruction),
+}
+
+// The classes that have limits.
+pub enum Class {
+    // 0 to 15: the stack's elements ST0 to ST15.
+    StackElement,
+    // 1 to 5: the words that can be moved at once.
+    NumberOfWords,
 }
 
 // What decoding a row answers.
@@ -20,28 +31,28 @@ pub enum DecodeAnswer {
     Row(Decoded),
 }
 
-// The instruction, if its argument names one of the stack's elements ST0 to ST15.
+// The instruction, if its argument is a stack element.
 fn stack_element(argument: u64, i: Instruction) -> Decoded
     ensures { λ r. ⌜ r ≡ checked (stackElement argument) i ⌝ }
 {
     if argument <= 15 {
         Decoded::Read(i)
     } else {
-        Decoded::Nothing
+        Decoded::Outside(Class::StackElement, i)
     }
 }
 
-// The instruction, if its argument is a number of words that it can move at once, 1 to 5.
+// The instruction, if its argument is a number of words.
 fn number_of_words(argument: u64, i: Instruction) -> Decoded
     ensures { λ r. ⌜ r ≡ checked (numberOfWords argument) i ⌝ }
 {
     if argument < 1 {
-        return Decoded::Nothing;
+        return Decoded::Outside(Class::NumberOfWords, i);
     }
     if argument <= 5 {
         Decoded::Read(i)
     } else {
-        Decoded::Nothing
+        Decoded::Outside(Class::NumberOfWords, i)
     }
 }
 
@@ -96,7 +107,7 @@ pub fn instruction_from(ci: u64, nia: u64) -> Decoded
         44 => Decoded::Read(Instruction::MerkleStepMem),
         80 => Decoded::Read(Instruction::XxDotStep),
         88 => Decoded::Read(Instruction::XbDotStep),
-        _ => Decoded::Nothing,
+        _ => Decoded::Unknown,
     }
 }
 

@@ -1,6 +1,7 @@
 // Compares the instructions with the list on standard input, which list.py takes from the Rust.
 // Each word below 512, and each of them with 2^32 added, is decoded with the arguments 0 to 16 and p - 1.
 use isa::Influence;
+use isa_decoding::Class;
 use isa_decoding::Decoded;
 ghost use Prim.Native.Nat.{_<_, _≤_};
 
@@ -110,19 +111,30 @@ fn same(a: Influence, b: Influence) -> bool {
     }
 }
 
+// The class as a line has it.
+fn kind_of(class: Class) -> u8 {
+    match class {
+        Class::StackElement => b's',
+        Class::NumberOfWords => b'n',
+    }
+}
+
 // Whether decoding the two words gives what the word's line says.
 fn agrees(line: &[u8], word: u64, argument: u64) -> bool {
     let decoded = isa_decoding::instruction_from(word, argument);
     if line.len() < LINE {
         return match decoded {
-            Decoded::Read(_) => false,
-            Decoded::Nothing => true,
+            Decoded::Unknown => true,
+            _ => false,
         };
     }
     let allowed = allows(line[KIND], argument);
     let influence = listed(line[SIGN], line[SIZE], line[SIZE + 1], argument);
     match decoded {
-        Decoded::Nothing => !allowed,
+        Decoded::Unknown => false,
+        Decoded::Outside(class, i) => {
+            !allowed && isa::opcode(i) == word && kind_of(class) == line[KIND]
+        }
         Decoded::Read(i) => allowed
             && isa::opcode(i) == word
             && same(isa::op_stack_size_influence(i), influence),

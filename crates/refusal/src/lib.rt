@@ -16,6 +16,7 @@ pub enum Refusal {
     BatchCutOff,
     CommandOutOfPlace,
     CommandOutOfOrder,
+    UndecodableRow,
 }
 
 // The answer of an operation that has no value of its own.
@@ -24,7 +25,7 @@ pub enum Answer {
     Refused(Refusal),
 }
 
-// The refusal's number, 1 to 10.
+// The refusal's number, 1 to 11.
 pub fn number(refusal: Refusal) -> u32
     ensures { λ r. ⌜ r ≡ numberOf refusal ⌝ }
 {
@@ -39,6 +40,7 @@ pub fn number(refusal: Refusal) -> u32
         Refusal::BatchCutOff => 8,
         Refusal::CommandOutOfPlace => 9,
         Refusal::CommandOutOfOrder => 10,
+        Refusal::UndecodableRow => 11,
     }
 }
 

@@ -17,7 +17,8 @@ ghost use Rattle.running_arguments.specs.Answers.{scanAnswer, scanWords};
 ghost use Rattle.table_fill.specs.Fill.{fillAnswer, fillTable};
 ghost use Rattle.table_pad.specs.Pad.{padAnswer, padTable};
 ghost use Rattle.extend_answer.specs.Answer.{extendAnswer};
-ghost use Rattle.extend.specs.Extend.{extendAux, extendWork};
+ghost use Rattle.extend_answer.specs.Strict.{strictAnswer};
+ghost use Rattle.extend.specs.Extend.{extendAux, extendWork, strictAux, strictWork};
 ghost use Rattle.batch.specs.Open.{openNumber};
 ghost use Rattle.batch_writer.specs.Contents.{contentsOf};
 ghost use Rattle.batch_writer.specs.Write.{writeAnswer, writeBatch};
@@ -223,6 +224,25 @@ pub extern "C" fn tealbobbin_extend(
         ≡ extendWork (now (main .entry)) (now (challenges .entry)) chunk (now (aux .entry)) (now (work .entry)) ⌝ }
 {
     refusal::answer_number(extend::extend(main, challenges, chunk, aux, work))
+}
+
+// The same, where every row decodes.
+#[no_mangle]
+pub extern "C" fn tealbobbin_extend_strict(
+    main: &[u64],
+    challenges: &[u64],
+    chunk: usize,
+    aux: &mut [u64],
+    work: &mut [u64],
+) -> u32
+    ensures number { λ r. ⌜ r ≡ answerNumberOf
+        (strictAnswer (now (main .entry)) (now (challenges .entry)) chunk (now (aux .entry)) (now (work .entry))) ⌝ }
+    ensures extended { λ r. ⌜ now (aux .exit)
+        ≡ strictAux (now (main .entry)) (now (challenges .entry)) chunk (now (aux .entry)) (now (work .entry)) ⌝ }
+    ensures cleared { λ r. ⌜ now (work .exit)
+        ≡ strictWork (now (main .entry)) (now (challenges .entry)) chunk (now (aux .entry)) (now (work .entry)) ⌝ }
+{
+    refusal::answer_number(extend::extend_strict(main, challenges, chunk, aux, work))
 }
 
 // Opens a batch: rows and words into the slices, how many into `counts`.

@@ -1,9 +1,11 @@
 // How answers are written for the C ABI.
 use field::ElementAnswer;
 use field_base::BaseAnswer;
+use isa_decoding::Class;
 use isa_decoding::DecodeAnswer;
 use isa_decoding::Decoded;
 ghost use mathlib.Core.Path.{_≡_};
+ghost use Rattle.isa_decoding.specs.Answer.{classWord, decodedWords};
 ghost use Rattle.tealbobbin_answers.specs.Decode.{decodeNumberInto, decodeInto};
 ghost use Rattle.tealbobbin_answers.specs.Field.{baseNumberInto, baseInto, elementNumberInto, elementInto};
 
@@ -43,6 +45,25 @@ pub fn put_element(answer: ElementAnswer, out: &mut [u64]) -> u32
     }
 }
 
+fn class_word(class: Class) -> u64
+    ensures { λ r. ⌜ r ≡ classWord class ⌝ }
+{
+    match class {
+        Class::StackElement => 2,
+        Class::NumberOfWords => 3,
+    }
+}
+
+fn decoded_words(decoded: Decoded) -> [u64; 2]
+    ensures { λ r. ⌜ r ≡ decodedWords decoded ⌝ }
+{
+    match decoded {
+        Decoded::Read(i) => [1, isa::opcode(i)],
+        Decoded::Unknown => [0, 0],
+        Decoded::Outside(class, i) => [class_word(class), isa::opcode(i)],
+    }
+}
+
 // Hands what a row decodes to out through a slice of two words.
 pub fn put_decoded(answer: DecodeAnswer, out: &mut [u64]) -> u32
     ensures number { λ r. ⌜ r ≡ decodeNumberInto (now (out .entry)) answer ⌝ }
@@ -52,18 +73,12 @@ pub fn put_decoded(answer: DecodeAnswer, out: &mut [u64]) -> u32
         return 1;
     }
     match answer {
-        DecodeAnswer::Row(decoded) => match decoded {
-            Decoded::Read(i) => {
-                out[0] = 1;
-                out[1] = isa::opcode(i);
-                0
-            }
-            Decoded::Nothing => {
-                out[0] = 0;
-                out[1] = 0;
-                0
-            }
-        },
+        DecodeAnswer::Row(decoded) => {
+            let words = decoded_words(decoded);
+            out[0] = words[0];
+            out[1] = words[1];
+            0
+        }
         DecodeAnswer::Refused(refusal) => refusal::number(refusal),
     }
 }

@@ -1,37 +1,9 @@
 // Prints the cells of the last row that the batch on standard input leads to, or the first refusal. Where a read fails it prints
 // nothing, and says so on standard error.
 use libc::STDERR_FILENO;
-use libc::STDIN_FILENO;
 use libc::STDOUT_FILENO;
-ghost use lib.ListN.{length};
-ghost use Rattle.terminals.specs.Input.{Within};
-
-enum Input {
-    // How many bytes were read.
-    Bytes(usize),
-    Unreadable,
-}
-
-// Reads standard input to its end, or until the buffer is full. A read that a signal interrupts counts as one that fails, since
-// `libc` does not say why one failed; the program handles no signal, so none interrupts it.
-fn read_input(buffer: &mut [u8]) -> Input
-    ensures { λ r. ⌜ Within r (length (now (buffer .exit))) ⌝ }
-{
-    let mut n = 0;
-    while n < buffer.len() {
-        let rest = &mut buffer[n..];
-        let got = libc::read(STDIN_FILENO, rest);
-        if got < 0 {
-            return Input::Unreadable;
-        }
-        let more = io::count(got, rest);
-        if more == 0 {
-            break;
-        }
-        n += more;
-    }
-    Input::Bytes(n)
-}
+use standard_input::Input;
+use standard_input::read_input;
 
 fn main() {
     // One byte over the limit, so that a longer batch is seen to be too long.

@@ -4,7 +4,7 @@ use mathlib.Core.List.{_∷_}
 use Prim.Native.Nat.{ℕ, zero, suc, _≤_}
 use native.Mathlib.Omega.{arith}
 use lib.ListN.{length, take, replicate, length-replicate}
-use Rattle.terminals_cells.specs.Terminals.{zeros}
+use Rattle.batch.specs.Lent.{zeros}
 
 pub take-zeros : (n m : ℕ) → n ≤ m → take n (replicate m 0) ≡ zeros n
 unfolding zeros

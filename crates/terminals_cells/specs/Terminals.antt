@@ -1,7 +1,7 @@
 -- "opens a batch, derives the challenges, fills, pads, extends with chunk length 4": the first refusal, or the last row's cells.
 use mathlib.Core.List.{List, []}
-use Prim.Native.Nat.{ℕ, _-_, _*_, _≤_}
-use lib.ListN.{length, take, drop, replicate}
+use Prim.Native.Nat.{ℕ, _-_, _*_}
+use lib.ListN.{length, take, drop}
 use Rattle.refusal.specs.declared.Answer.{Answer}
 use Rattle.refusal.specs.declared.Answer.the-variants.{Done, Refused}
 use Rattle.air.specs.MainColumn.{MAIN-WIDTH}
@@ -18,16 +18,13 @@ use Rattle.batch_reader.specs.declared.OpenAnswer.{OpenAnswer}
 use Rattle.batch_reader.specs.declared.OpenAnswer.the-variants.{Opened, Refused as NotOpened}
 use Rattle.batch_commands.specs.Format.{ROW, OP-STACK, RAM, JUMP-STACK, SAMPLED, DIGEST, INPUT, OUTPUT, MAX-DIFFERENCES, MAX-WORDS}
 use Rattle.batch.specs.Open.{TRACE-WORDS, openAnswer, openSlice}
+use Rattle.batch.specs.Lent.{zeros}
 use Rattle.table_pad.specs.Height.{height}
 
 -- the first refusal of two operations
 abbrev pub after : Answer → Answer → Answer
 after Done next = next
 after (Refused refusal) next = Refused refusal
-
--- a slice as it is lent
-unfoldable pub zeros : ℕ → List ℕ
-zeros n = replicate n 0
 
 -- the words of the last row
 abbrev pub lastRow : List ℕ → List ℕ
@@ -89,15 +86,6 @@ module _ (counts : Counts) (trace op-stack ram jump-stack sampled digest input o
       let wrote = take (counts .output) output in
       tableCells (take (counts .rows * MAIN-WIDTH) trace) (take (counts .«op_stack») op-stack) (take (counts .ram) ram) (take (counts .«jump_stack») jump-stack)
       (challengesRecord sampled digest read wrote (zeros RECORD-WORDS))
-
--- the counts lie within slices of these lengths
-pub record Within (counts : Counts) (trace op-stack ram jump-stack input output : ℕ) : Type 0 where
-  pub in-trace : counts .rows * MAIN-WIDTH ≤ trace
-  pub in-op-stack : counts .«op_stack» ≤ op-stack
-  pub in-ram : counts .ram ≤ ram
-  pub in-jump-stack : counts .«jump_stack» ≤ jump-stack
-  pub in-input : counts .input ≤ input
-  pub in-output : counts .output ≤ output
 
 -- with what opening leaves in slices of zeros
 abbrev pub answerAfter : OpenAnswer → List ℕ → Answer

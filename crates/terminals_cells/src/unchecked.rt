@@ -9,9 +9,10 @@ ghost use Prim.Native.Nat.{_≤_};
 ghost use lib.ListN.{length};
 ghost use Rattle.refusal.specs.Number.{onDone};
 ghost use Rattle.table_rows.specs.Rows.{rows};
+ghost use Rattle.batch.specs.Lent.{Within};
 ghost use Rattle.extend_answer.specs.Answer.{extendAnswer};
 ghost use Rattle.extend.specs.Extend.{extendAux};
-ghost use Rattle.terminals_cells.specs.Terminals.{lastRow, extendedAnswer, extendedCells, paddedAnswer, paddedCells, filledAnswer, filledCells, tableAnswer, tableCells, Within, openedAnswer, openedCells};
+ghost use Rattle.terminals_cells.specs.Terminals.{lastRow, extendedAnswer, extendedCells, paddedAnswer, paddedCells, filledAnswer, filledCells, tableAnswer, tableCells, openedAnswer, openedCells};
 
 const CHUNK: usize = 4;
 

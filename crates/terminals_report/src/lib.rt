@@ -2,8 +2,8 @@
 use batch_reader::OpenAnswer;
 use refusal::Answer;
 use terminals_cells::unchecked::opened_cells;
-use terminals_text::put_refusal;
 use terminals_text::unchecked::put_lines;
+use text::unchecked::put_refusal;
 ghost use mathlib.Core.Path.{_≡_};
 ghost use Prim.Native.Nat.{_≤_};
 ghost use lib.ListN.{length};

@@ -1,34 +1,10 @@
-// Numbers and lines, where the caller lends room enough. Each function writes from `at` on and answers where its text ends.
+// The lines of the cells, where the caller lends room enough.
+use text::unchecked::put_word;
 ghost use mathlib.Core.Path.{_≡_};
 ghost use Prim.Native.Nat.{_+_, _≤_, _<_};
 ghost use lib.ListN.{length};
 ghost use lib.Seq.{sets};
-ghost use Rattle.terminals_text.specs.Text.{decimal, word, line, lines};
-
-fn put_decimal(n: u64, out: &mut [u8], at: usize) -> usize
-    requires { ⌜ at + length (decimal n) ≤ length (now out) ⌝ }
-    ensures end { λ r. ⌜ r ≡ at + length (decimal n) ⌝ }
-    ensures text { λ r. ⌜ now (out .exit) ≡ sets (now (out .entry)) at (decimal n) ⌝ }
-{
-    if n < 10 {
-        out[at] = b'0' + n as u8;
-        return at + 1;
-    }
-    let end = put_decimal(n / 10, out, at);
-    out[end] = b'0' + (n % 10) as u8;
-    end + 1
-}
-
-// The number, and then a space or a line's end.
-pub(crate) fn put_word(n: u64, then: u8, out: &mut [u8], at: usize) -> usize
-    requires { ⌜ at + 21 ≤ length (now out) ⌝ }
-    ensures end { λ r. ⌜ (r ≡ at + length (word n then)) × (r ≤ at + 21) ⌝ }
-    ensures text { λ r. ⌜ now (out .exit) ≡ sets (now (out .entry)) at (word n then) ⌝ }
-{
-    let end = put_decimal(n, out, at);
-    out[end] = then;
-    end + 1
-}
+ghost use Rattle.terminals_text.specs.Text.{line, lines};
 
 // A column and its three words.
 fn put_line(column: usize, cells: &[u64; 33], out: &mut [u8], at: usize) -> usize

@@ -17,7 +17,7 @@ use Rattle.air.specs.MainColumn.{CLK, CI, ST0, CLOCK-JUMP-DIFFERENCE-LOOKUP-MUL
 use Rattle.isa.specs.Instruction.{opcodeOf, argumentOf, influenceOf}
 use Rattle.isa.specs.declared.Instruction.{Instruction}
 use Rattle.isa_decoding.specs.declared.Decoded.{Decoded}
-use Rattle.isa_decoding.specs.declared.Decoded.the-variants.{Read, Nothing}
+use Rattle.isa_decoding.specs.declared.Decoded.the-variants.{Read, Unknown, Outside}
 use Rattle.table_rows.specs.Rows.{rowAt}
 use Rattle.column_entries.proofs.Weigh.{weigh-canonical}
 use Rattle.column_entries.specs.Row.{wordAt, wordsFrom, isPadding, instructionOf, weigh}
@@ -52,7 +52,8 @@ row-below table h r = All-take (λ w. w < p) 39 (drop (r * 39) table) (All-drop 
 
 module _ {A : Type 0} (Q : A → Type 0) where
   if-read : (d : Decoded) (brings : Instruction → List A) → ((i : Instruction) → All Q (brings i)) → All Q (ifRead d brings)
-  if-read Nothing brings h = tt
+  if-read Unknown brings h = tt
+  if-read (Outside c i) brings h = tt
   if-read (Read i) brings h = h i
 
   if-opcode : (opcode : ℕ) (i : Instruction) (brings : ℕ → List A) → ((n : ℕ) → All Q (brings n)) → All Q (ifOpcode opcode i brings)

@@ -16,3 +16,4 @@ pub mod Term2
 pub mod Term3
 pub mod Calls
 pub mod Term1
+pub mod Strict

@@ -11,7 +11,7 @@ use Rattle.algebra.specs.Modulus.{p}
 use Rattle.refusal.specs.Number.{numberOf, answerNumberOf, onDone}
 use Rattle.refusal.specs.Long.{isLong}
 use Rattle.refusal.specs.declared.Refusal.{Refusal}
-use Rattle.refusal.specs.declared.Refusal.the-variants.{SliceLength, WordNotBelowP, RowCount, DifferenceTooLarge, ChunkLengthZero, ZeroDenominator, UnknownCommand, BatchCutOff, CommandOutOfPlace, CommandOutOfOrder}
+use Rattle.refusal.specs.declared.Refusal.the-variants.{SliceLength, WordNotBelowP, RowCount, DifferenceTooLarge, ChunkLengthZero, ZeroDenominator, UnknownCommand, BatchCutOff, CommandOutOfPlace, CommandOutOfOrder, UndecodableRow}
 use Rattle.refusal.specs.declared.Answer.{Answer}
 use Rattle.refusal.specs.declared.Answer.the-variants.{Done, Refused}
 use Rattle.field_base.specs.Words.{allBelow}
@@ -41,7 +41,8 @@ use Rattle.extend_table.specs.Extended.{extended}
 use Rattle.extend_answer.specs.Answer as extension
 use Rattle.extend_answer.specs.Answer.{extendAnswer}
 use Rattle.extend_answer.proofs.Accepted.{wrongRows, wrongWords}
-use Rattle.extend.specs.Extend.{extendAux, extendWork}
+use Rattle.extend_answer.specs.Strict.{undecodable, behindEleven, strictAnswer}
+use Rattle.extend.specs.Extend.{extendAux, extendWork, strictAux, strictWork}
 use Rattle.batch_commands.specs.declared.Seen.{Seen}
 use Rattle.batch_commands.specs.Format.{END, width, wordsIn, MAX-ROWS, Command}
 use Rattle.batch_commands.specs.Fault.{outOfPlace, outOfOrder, wrongRowCount, judged, fault}
@@ -162,6 +163,20 @@ on-done : {line : List ℕ} (answer : Answer) → answerNumberOf answer ∈ 0 �
 on-done Done f result slice = done
 on-done (Refused r) f result slice = refused f refl
 
+two-slices : {line : List ℕ} (answer : Answer) → answerNumberOf answer ∈ 0 ∷ line → (r₁ s₁ r₂ s₂ : List ℕ)
+    → Answers line (answerNumberOf answer) ((onDone answer r₁ s₁ ≡ s₁) × (onDone answer r₂ s₂ ≡ s₂))
+two-slices Done f r₁ s₁ r₂ s₂ = done
+two-slices (Refused r) f r₁ s₁ r₂ s₂ = refused f (refl, refl)
+
+abbrev extendTests : List ℕ → List ℕ → ℕ → List ℕ → List ℕ → Tests
+extendTests main challenges chunk aux work =
+    (not (extension.rightLengths main challenges aux work), SliceLength)
+    ∷ (wrongRows main, RowCount)
+    ∷ (eqb chunk 0, ChunkLengthZero)
+    ∷ (wrongWords main challenges, WordNotBelowP)
+    ∷ (zeroDenominator main challenges, ZeroDenominator)
+    ∷ []
+
 scans : {line : List ℕ} → T (every (stands line) (1 ∷ 5 ∷ 2 ∷ [])) → (width : ℕ) (scanned : List ℕ → List ℕ) → Scans line width scanned
 unfolding scanAnswer scanWords
 scans t width scanned items chunk =
@@ -214,7 +229,7 @@ module _ (bytes : List ℕ) (lent : Slices) where
   open-kept (open-answer.Refused r) f = refused f refl
 
 pub term1 : Term1
-unfolding decodeAnswer challengesAnswer challengesRecord fillAnswer fillTable padAnswer padTable extendAnswer extendAux extendWork openInto openAnswer reading writeAnswer writeBatch
+unfolding decodeAnswer challengesAnswer challengesRecord fillAnswer fillTable padAnswer padTable extendAnswer extendAux extendWork strictAnswer strictAux strictWork openInto openAnswer reading writeAnswer writeBatch
 term1 =
     record {
       base-add = λ a b. on-words (baseAdd a b) tt (base-checked (ltb a p && ltb b p) (base-answer.Word (base.plus a b)) tt zero-listed);
@@ -269,18 +284,14 @@ term1 =
           ∷ []) tt)
           (padded table len) table;
       extend = λ main challenges chunk aux work.
+          two-slices (extendAnswer main challenges chunk aux work) (by-refusals (extendTests main challenges chunk aux work) tt)
+          (extended main challenges) aux (replicate (length work) 0) work;
+      extend-strict = λ main challenges chunk aux work.
           let answer = extendAnswer main challenges chunk aux work in
-          let fixed = by-refusals
-          ((not (extension.rightLengths main challenges aux work), SliceLength)
-          ∷ (wrongRows main, RowCount)
-          ∷ (eqb chunk 0, ChunkLengthZero)
-          ∷ (wrongWords main challenges, WordNotBelowP)
-          ∷ (zeroDenominator main challenges, ZeroDenominator)
-          ∷ []) tt in
-          record {
-            fixed = fixed;
-            kept = λ ne. (on-done answer fixed (extended main challenges) aux .kept ne, on-done answer fixed (replicate (length work) 0) work .kept ne);
-          };
+          two-slices (strictAnswer main challenges chunk aux work)
+          (chosen answerNumberOf (undecodable main && behindEleven answer) (Refused UndecodableRow) answer (listed UndecodableRow tt)
+          (by-refusals (extendTests main challenges chunk aux work) tt))
+          (extended main challenges) aux (replicate (length work) 0) work;
       open-batch = λ bytes lent.
           let answer = openAnswer bytes (length (lent .trace)) (length (lent .op-stack)) (length (lent .ram)) (length (lent .jump-stack)) (length (lent .sampled))
           (length (lent .digest)) (length (lent .input)) (length (lent .output)) in

@@ -6,3 +6,5 @@ pub mod Term3
 pub mod Counting
 pub mod Columns
 pub mod Calls
+-- What document 02 adds: strict extension.
+pub mod Strict

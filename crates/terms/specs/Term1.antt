@@ -19,7 +19,8 @@ use Rattle.running_arguments.specs.Answers.{scanAnswer, scanWords}
 use Rattle.table_fill.specs.Fill.{fillAnswer, fillTable}
 use Rattle.table_pad.specs.Pad.{padAnswer, padTable}
 use Rattle.extend_answer.specs.Answer.{extendAnswer}
-use Rattle.extend.specs.Extend.{extendAux, extendWork}
+use Rattle.extend_answer.specs.Strict.{strictAnswer}
+use Rattle.extend.specs.Extend.{extendAux, extendWork, strictAux, strictWork}
 use Rattle.batch.specs.Open.{openNumber}
 use Rattle.batch_writer.specs.Contents.{Contents}
 use Rattle.batch_writer.specs.Write.{writeAnswer, writeBatch}
@@ -77,6 +78,9 @@ pub record Term1 : Type 0 where
   pub extend : (main challenges : List ℕ) (chunk : ℕ) (aux work : List ℕ)
       → Answers (1 ∷ 3 ∷ 5 ∷ 2 ∷ 6 ∷ []) (answerNumberOf (extendAnswer main challenges chunk aux work))
       ((extendAux main challenges chunk aux work ≡ aux) × (extendWork main challenges chunk aux work ≡ work))
+  pub extend-strict : (main challenges : List ℕ) (chunk : ℕ) (aux work : List ℕ)
+      → Answers (1 ∷ 3 ∷ 5 ∷ 2 ∷ 11 ∷ 6 ∷ []) (answerNumberOf (strictAnswer main challenges chunk aux work))
+      ((strictAux main challenges chunk aux work ≡ aux) × (strictWork main challenges chunk aux work ≡ work))
   pub open-batch : (batch : List ℕ) (lent : Slices)
       → Answers (1 ∷ 7 ∷ 8 ∷ 9 ∷ 10 ∷ 3 ∷ 2 ∷ []) (openNumber (openInto batch lent)) (slicesAfter batch lent ≡ lent)
   pub write-batch : (contents : Contents) (batch : List ℕ)

@@ -8,7 +8,8 @@ use Rattle.algebra.specs.Modulus.{p}
 use Rattle.algebra.specs.Polynomial.{Distinct}
 use Rattle.field.specs.Element.{X, lift, difference, product, inverse}
 use Rattle.isa_decoding.specs.Decode.{decoded}
-use Rattle.isa_decoding.specs.declared.Decoded.the-variants.{Read, Nothing}
+use Rattle.isa_decoding.specs.declared.Decoded.the-variants.{Read, Outside}
+use Rattle.isa_decoding.specs.declared.Class.the-variants.{NumberOfWords}
 use Rattle.isa.specs.declared.Instruction.the-variants.{ReadIo}
 use Rattle.tip5.specs.LookupTable.{lookupTable}
 use Rattle.air.specs.AuxColumn.{AUX-WORDS}
@@ -25,8 +26,8 @@ pub record Cases : Type 0 where
   pub x²-times-x² : product (product X X) (product X X) ≡ record { c0 = 0; c1 = p - 1; c2 = 1 }
   pub one-over-x : inverse X ≡ record { c0 = 1; c1 = 0; c2 = p - 1 }
   pub one-over-2 : base.inverse 2 ≡ 9223372034707292161
-  pub read-io-0 : decoded 73 0 ≡ Nothing
-  pub read-io-6 : decoded 73 6 ≡ Nothing
+  pub read-io-0 : decoded 73 0 ≡ Outside NumberOfWords (ReadIo 0)
+  pub read-io-6 : decoded 73 6 ≡ Outside NumberOfWords (ReadIo 6)
   pub read-io-5 : decoded 73 5 ≡ Read (ReadIo 5)
   pub byte-0 : getD lookupTable 0 0 ≡ 0
   pub byte-1 : getD lookupTable 1 0 ≡ 7

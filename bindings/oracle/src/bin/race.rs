@@ -6,6 +6,7 @@
 use std::hint::black_box;
 use std::time::{Duration, Instant};
 
+use compare::extensions::Extend;
 use compare::random::Random;
 use oracle::rows::{Mix, REALISTIC, WORST, mixed};
 use oracle::{Claimed, Differences, Extension, Items, MAIN_WIDTH, Main, Order, Sampled, Trace};
@@ -58,6 +59,18 @@ fn extend(random: &mut Random, mix: Mix, rows: usize, padding: usize, every: u64
     );
     assert!(aux == by_columns.words() && aux == by_rows.words());
     [columns.min(row_by_row), library]
+}
+
+/// Ordinary extension in the original's place, and strict extension.
+fn extend_strict(random: &mut Random, mix: Mix, rows: usize, padding: usize, every: u64) -> Times {
+    let (main, challenges) = (mixed(random, mix, rows, padding, every), words(random, 189));
+    let [mut ordinary, mut strict] = [(); 2].map(|()| (vec![0; 33 * rows], vec![0; 6 * rows]));
+    let run = |extend: Extend, (aux, work): &mut (Vec<u64>, Vec<u64>)| {
+        timed(|| assert_eq!(extend(&main, &challenges, CHUNK, aux, work), 0))
+    };
+    let times = best(rows, [&mut || run(abi::extend, &mut ordinary), &mut || run(abi::extend_strict, &mut strict)]);
+    assert!(ordinary == strict);
+    times
 }
 
 /// A trace as high as the table, one difference a row.
@@ -145,9 +158,13 @@ fn lines(what: &str, sizes: &[usize], mut race: impl FnMut(usize) -> Times) {
     }
 }
 
+fn header(first: &str, second: &str) {
+    println!("{:<20} {:>8} {first:>10} {second:>10} {:>8} {:>8}", "nanoseconds", "size", "ratio", "growth");
+}
+
 fn main() {
     let random = &mut Random(7);
-    println!("{:<20} {:>8} {:>10} {:>10} {:>8} {:>8}", "nanoseconds", "size", "original", "library", "ratio", "growth");
+    header("original", "library");
     let rows = [1 << 12, 1 << 16, 1 << 18];
     lines("extend, realistic", &rows, |rows| extend(random, REALISTIC, rows, rows / 4, 10));
     lines("extend, worst", &rows, |rows| extend(random, WORST, rows, 0, 1));
@@ -159,4 +176,7 @@ fn main() {
     lines("scan of maps", &items, |items| scan(random, 6, Items::maps, abi::scan_maps, items));
     lines("scan of products", &items, |items| scan(random, 3, Items::products, abi::scan_products, items));
     lines("scan of sums", &items, |items| scan(random, 3, Items::sums, abi::scan_sums, items));
+    header("extend", "strictly");
+    lines("extend, realistic", &rows, |rows| extend_strict(random, REALISTIC, rows, rows / 4, 10));
+    lines("extend, worst", &rows, |rows| extend_strict(random, WORST, rows, 0, 1));
 }

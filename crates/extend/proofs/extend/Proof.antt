@@ -1,51 +1,12 @@
--- Nothing is written on a refusal; else the denominators are inverted in `work`, the cells written, and `work` cleared.
-use mathlib.Core.Path.{_≡_, refl, sym, ap, _∙_}
-use mathlib.Core.List.{List}
-use Prim.Native.Nat.{ℕ}
-use lib.ListN.{length, replicate}
+-- The answer that is not strict is extension's.
 use borrow.Author.Needs.{needs}
-use Rattle.refusal.specs.declared.Answer.the-variants.{Done}
-use Rattle.table_rows.specs.Rows.{rows}
-use Rattle.table_rows.proofs.Rows.{length-rows}
-use Rattle.extend_denominators.specs.Items.{denominatorOf, inverseItem}
-use Rattle.extend_answer.specs.Answer.{extendAnswer}
+use mathlib.Core.Path.{_∙_}
 use Rattle.extend.specs.Extend.{extendAux, extendWork}
-use Rattle.extend_answer.proofs.Accepted.{Accepted, passed, ready}
-use Rattle.extend.proofs.Written.{written, cleared}
 use Rattle.extend.proofs.extend.Statement.{statement}
 use Rattle.extend.proofs.extend.Tie as tie
 
-abbrev start : tie.After-enum-told → tie.Start
-start c = c .before .before .before .before .before .before .before .before .before
-
-done : (c : tie.After-enum-told) → let args = start c .args in extendAnswer (args .main .now) (args .challenges .now) (args .chunk) (args .aux .now) (args .work .now) ≡ Done
-done c = sym (c .before .before .extend-answer .ensures) ∙ c .enum-told .given .1
-
-accepted : (c : tie.After-enum-told) → let args = start c .args in Accepted (args .main .now) (args .challenges .now) (args .aux .now) (args .work .now)
-accepted c = let args = start c .args in passed (args .main .now) (args .challenges .now) (args .chunk) (args .aux .now) (args .work .now) (done c)
-
-extend-answer-requires : tie.Need-extend-answer-requires
-extend-answer-requires c κs = search needs
-
-enum-known-answer : tie.Need-enum-known-answer
-enum-known-answer c = search needs
-
-enum-told : tie.Need-enum-told
-enum-told c = search needs
-
-invert-denominators-requires : tie.Need-invert-denominators-requires
-invert-denominators-requires c κs =
-    let told = c .before in
-    (ready _ _ _ _ _ (done told), (accepted told .fitting .work-length, accepted told .no-zero))
-
-write-cells-requires : tie.Need-write-cells-requires
-write-cells-requires c κs =
-    let inverted = c .before .before .before .before in
-    let told = inverted .before .before in
-    (ready _ _ _ _ _ (done told), (accepted told .fitting .aux-length, (accepted told .no-zero, inverted .invert-denominators .ensures)))
-
-clear-requires : tie.Need-clear-requires
-clear-requires c κs = search needs
+extended-or-refused-requires : tie.Need-extended-or-refused-requires
+extended-or-refused-requires c κs = search needs
 
 same-length : tie.Need-same-length
 same-length c = search needs
@@ -56,45 +17,8 @@ same-length-2 c = search needs
 returns : tie.Need-returns
 unfolding extendAux extendWork
 returns c =
-    let e = sym (c .before .before .before .extend-answer .ensures) ∙ c .before .answer .given .1 in
-    (sym e, (rw e, rw e))
-
-same-length-3 : tie.Need-same-length-3
-same-length-3 c = search needs
-
-same-length-4 : tie.Need-same-length-4
-same-length-4 c = search needs
-
-returns-2 : tie.Need-returns-2
-returns-2 c =
-    let at-clear = c .before .before in
-    let wrote = at-clear .before .before .before .before in
-    let inverted = wrote .before .before .before .before .before in
-    let told = inverted .before .before in
-    let args = start told .args in
-    let main = args .main .now in
-    let item : ℕ → List ℕ = λ n. inverseItem (denominatorOf (args .challenges .now) main n) in
-    let same = ap length (inverted .invert-denominators .ensures) ∙ length-rows 6 item 0 (rows main) (λ n l h. refl) ∙ sym (accepted told .fitting .work-length) in (
-      sym (done told),
-      (
-        wrote .write-cells .ensures ∙ sym (written (args .main .now) (args .challenges .now) (args .chunk) (args .aux .now) (args .work .now) (done told)),
-        at-clear .clear .ensures ∙ ap (λ n. replicate n 0) same ∙ sym (cleared (args .main .now) (args .challenges .now) (args .chunk) (args .aux .now) (args .work .now) (done told)),
-      ),
-    )
+    let after = c .before .before .before .before .extended-or-refused .ensures in
+    (after .0, (rw (← after .0) (after .1 .0), rw (← after .0) (after .1 .1)))
 
 pub extend-spec : {M : Type 1} → statement M
-extend-spec =
-    tie.close
-    (tie.spec
-    extend-answer-requires
-    enum-known-answer
-    enum-told
-    invert-denominators-requires
-    write-cells-requires
-    clear-requires
-    same-length
-    same-length-2
-    returns
-    same-length-3
-    same-length-4
-    returns-2)
+extend-spec = tie.close (tie.spec extended-or-refused-requires same-length same-length-2 returns)

@@ -1,18 +1,28 @@
 -- The tests in order.
 use borrow.Author.Needs.{needs}
 use borrow.Author.Tests.{eq-eqb, ne-eqb, not-true, not-false}
-use mathlib.Core.Bool.{and-false, or-true}
+use mathlib.Core.Bool.{Bool, true, false, _&&_, and-true, and-false, or-true}
 use mathlib.Core.Logic.{⊎-elim}
-use mathlib.Core.Path.{_≡_, sym, _∙_}
+use mathlib.Core.Path.{_≡_, refl, sym, ap, _∙_}
+use Rattle.refusal.specs.declared.Answer.the-variants.{Refused}
+use Rattle.refusal.specs.declared.Refusal.the-variants.{SliceLength}
+use Rattle.field_base.specs.Words.{allBelow}
 use Rattle.table_rows.specs.Rows.{rows}
 use Rattle.refusal.proofs.Answers.{is-long}
+use Rattle.column_entries.specs.Denominators.{zeroDenominator}
 use Rattle.extend_answer.specs.Answer.{extendAnswer}
-use Rattle.extend_answer.proofs.Accepted.{lengths, byRows, byChunk, byWords, byDenominators}
+use Rattle.extend_answer.specs.Strict.{undecodable, turnedAway, answerIn}
+use Rattle.extend_answer.proofs.Accepted.{Lengths, lengths, byRows, byChunk, byWords, byDenominators}
+use Rattle.extend_answer.proofs.Undecodable.{answers, still, refused-by-rows, past-rows}
 use Rattle.extend_answer.proofs.extend_answer.Statement.{statement}
 use Rattle.extend_answer.proofs.extend_answer.Tie as tie
 
 abbrev start : tie.Else1 → tie.Start
 start c = c .before .before .before .before .before .before
+
+to-lengths : (c : tie.Then1) → let args = c .before .before .before .before .before .before .args in extendAnswer (args .main .now) (args .challenges .now) (args .chunk) (args .aux .now) (args .work .now) ≡ Refused SliceLength
+unfolding extendAnswer
+to-lengths c = rw (sym (c .before .right-lengths .ensures) ∙ not-true _ (c .if1 .taken))
 
 to-rows : (c : tie.Else1) → let args = start c .args in extendAnswer (args .main .now) (args .challenges .now) (args .chunk) (args .aux .now) (args .work .now) ≡ byRows (args .main .now) (args .challenges .now) (args .chunk)
 unfolding extendAnswer
@@ -26,65 +36,92 @@ to-chunk c =
 to-words : (c : tie.Else4) → let args = start (c .before .before .before) .args in extendAnswer (args .main .now) (args .challenges .now) (args .chunk) (args .aux .now) (args .work .now) ≡ byWords (args .main .now) (args .challenges .now)
 to-words c = let chunk = start (c .before .before .before) .args .chunk in to-chunk (c .before) ∙ rw (ne-eqb chunk 0 (c .if4 .left))
 
-to-denominators : (c : tie.Else6) → let args = start (c .before .before .before .before .before .before .before) .args in extendAnswer (args .main .now) (args .challenges .now) (args .chunk) (args .aux .now) (args .work .now) ≡ byDenominators (args .main .now) (args .challenges .now)
-to-denominators c =
-    to-words (c .before .before .before .before)
-    ∙ rw (
-      sym (c .before .before .before .all-below .ensures) ∙ not-false _ (c .before .before .if5 .left),
-      sym (c .before .all-below2 .ensures) ∙ not-false _ (c .if6 .left),
-    )
+to-main : (c : tie.Else5) → let args = start (c .before .before .before .before .before) .args in extendAnswer (args .main .now) (args .challenges .now) (args .chunk) (args .aux .now) (args .work .now) ≡ answers (allBelow (args .main .now)) (zeroDenominator (args .main .now) (args .challenges .now))
+to-main c = to-words (c .before .before) ∙ rw (sym (c .before .all-below .ensures) ∙ not-false _ (c .if5 .left), and-true)
+
+abbrev turns : tie.Start → Bool
+turns c = c .args .strict && undecodable (c .args .main .now)
 
 right-lengths-requires : tie.Need-right-lengths-requires
 right-lengths-requires c κs = search needs
 
 returns : tie.Need-returns
-unfolding extendAnswer
-returns c = rw (sym (c .before .right-lengths .ensures) ∙ not-true _ (c .if1 .taken))
+returns c =
+    let first = c .before .before .before .before .before .before in
+    sym (still (turns first) (to-lengths c) refl)
 
 returns-2 : tie.Need-returns-2
 returns-2 c =
     let n = rows (start (c .before) .args .main .now) in
     sym
-    (to-rows (c .before)
-    ∙ ⊎-elim
-    (λ x. rw (eq-eqb n 0 (x .taken)))
-    (λ x. rw (is-long n ∙ x .1 .taken, or-true))
-    (c .if2 .came))
+    (still
+    (turns (start (c .before)))
+    (to-rows (c .before) ∙ ⊎-elim (λ x. rw (eq-eqb n 0 (x .taken))) (λ x. rw (is-long n ∙ x .1 .taken, or-true)) (c .if2 .came))
+    refl)
 
 returns-3 : tie.Need-returns-3
-returns-3 c = let chunk = start (c .before .before .before) .args .chunk in sym (to-chunk (c .before) ∙ rw (eq-eqb chunk 0 (c .if4 .taken)))
+returns-3 c =
+    let first = start (c .before .before .before) in
+    sym (still (turns first) (to-chunk (c .before) ∙ rw (eq-eqb (first .args .chunk) 0 (c .if4 .taken))) refl)
 
 all-below-requires : tie.Need-all-below-requires
 all-below-requires c κs = search needs
 
-all-below-requires-2 : tie.Need-all-below-requires-2
-all-below-requires-2 c κs = search needs
-
 returns-4 : tie.Need-returns-4
 returns-4 c =
     sym
-    (to-words (c .before .before)
-    ∙ ⊎-elim
-    (λ x. rw (sym (c .before .all-below .ensures) ∙ not-true _ (x .taken)))
-    (λ x. rw (sym (x .1 .ensures) ∙ not-true _ (x .2 .taken), and-false))
-    (c .if5 .came))
+    (still
+    (turns (start (c .before .before .before .before .before)))
+    (to-words (c .before .before) ∙ rw (sym (c .before .all-below .ensures) ∙ not-true _ (c .if5 .taken), and-false))
+    refl)
+
+fitting : (c : tie.Else5) → let args = start (c .before .before .before .before .before) .args in Lengths (args .main .now) (args .challenges .now) (args .aux .now) (args .work .now)
+fitting c =
+    let tested = c .before .before .before .before .before in
+    let args = start tested .args in
+    lengths (args .main .now) (args .challenges .now) (args .aux .now) (args .work .now) (sym (tested .before .right-lengths .ensures) ∙ not-false _ (tested .if1 .left))
+
+rows-answer-requires : tie.Need-rows-answer-requires
+rows-answer-requires c κs = fitting c .whole
+
+enum-known-refusal : tie.Need-enum-known-refusal
+enum-known-refusal c = search needs
+
+enum-told : tie.Need-enum-told
+enum-told c = search needs
+
+passed-rows : (c : tie.After-enum-told) → let first = start (c .before .before .before .before .before .before .before .before) in (allBelow (first .args .main .now) ≡ true) × (turns first ≡ false)
+passed-rows c =
+    let first = start (c .before .before .before .before .before .before .before .before) in
+    past-rows (allBelow (first .args .main .now)) (turns first) (sym (c .before .before .rows-answer .ensures) ∙ c .enum-told .given .1)
 
 has-zero-denominator-requires : tie.Need-has-zero-denominator-requires
 has-zero-denominator-requires c κs =
-    let tested = c .before .before .before .before .before .before .before in
-    let args = start tested .args in
-    let fitting = lengths (args .main .now) (args .challenges .now) (args .aux .now) (args .work .now) (sym (tested .before .right-lengths .ensures) ∙ not-false _ (tested .if1 .left)) in
+    let at-rows = c .before .before .before in
     record {
-      whole = fitting .challenges-length;
-      challenges-below = sym (c .before .all-below2 .ensures) ∙ not-false _ (c .if6 .left);
-      main-below = sym (c .before .before .before .all-below .ensures) ∙ not-false _ (c .before .before .if5 .left);
+      whole = fitting at-rows .challenges-length;
+      challenges-below = sym (at-rows .before .all-below .ensures) ∙ not-false _ (at-rows .if5 .left);
+      main-below = passed-rows c .0;
     }
 
+to-denominators : (c : tie.After-enum-told) → let args = start (c .before .before .before .before .before .before .before .before) .args in answerIn (args .strict) (args .main .now) (args .challenges .now) (args .chunk) (args .aux .now) (args .work .now) ≡ byDenominators (args .main .now) (args .challenges .now)
+to-denominators c = rw (passed-rows c .1) (to-main (c .before .before .before) ∙ rw (passed-rows c .0))
+
 returns-5 : tie.Need-returns-5
-returns-5 c = sym (to-denominators (c .before .before) ∙ rw (sym (c .before .has-zero-denominator .ensures) ∙ c .if7 .taken))
+returns-5 c = sym (to-denominators (c .before .before) ∙ rw (sym (c .before .has-zero-denominator .ensures) ∙ c .if6 .taken))
 
 returns-6 : tie.Need-returns-6
-returns-6 c = sym (to-denominators (c .before .before) ∙ rw (sym (c .before .has-zero-denominator .ensures) ∙ c .if7 .left))
+returns-6 c =
+    let told = c .before in
+    let at-rows = told .before .before .before in
+    let first = start (at-rows .before .before .before .before .before) in
+    let main = first .args .main .now in
+    sym
+    (ap (turnedAway (turns first)) (to-main at-rows)
+    ∙ refused-by-rows (allBelow main) (turns first) (zeroDenominator main (first .args .challenges .now)) (sym (told .before .before .rows-answer .ensures) ∙ told .refusal .given .1))
+
+returns-7 : tie.Need-returns-7
+returns-7 c = sym (to-denominators (c .before .before) ∙ rw (sym (c .before .has-zero-denominator .ensures) ∙ c .if6 .left))
 
 pub extend-answer-spec : {M : Type 1} → statement M
 extend-answer-spec =
@@ -95,8 +132,11 @@ extend-answer-spec =
     returns-2
     returns-3
     all-below-requires
-    all-below-requires-2
     returns-4
+    rows-answer-requires
+    enum-known-refusal
+    enum-told
     has-zero-denominator-requires
     returns-5
-    returns-6)
+    returns-6
+    returns-7)

@@ -6,8 +6,9 @@ use native.Mathlib.Omega.{arith}
 use Rattle.refusal.specs.Number.{onDone}
 use Rattle.batch_commands.specs.Format.{ROW, OP-STACK, RAM, JUMP-STACK, SAMPLED, DIGEST, INPUT, OUTPUT}
 use Rattle.batch.specs.Open.{openSlice}
-use Rattle.terminals_cells.specs.Terminals.{zeros, openedAnswer, openedCells, answerAfter, cellsAfter, terminalsAnswer, terminalsCells}
-use Rattle.terminals_report.proofs.Opened.{within-opened}
+use Rattle.batch.specs.Lent.{zeros}
+use Rattle.batch.proofs.Opened.{within-opened}
+use Rattle.terminals_cells.specs.Terminals.{openedAnswer, openedCells, answerAfter, cellsAfter, terminalsAnswer, terminalsCells}
 use borrow.Author.Needs.{needs}
 use Rattle.terminals_report.proofs.last_cells.Statement.{statement}
 use Rattle.terminals_report.proofs.last_cells.Tie as tie

@@ -1,11 +1,12 @@
-//! Extension.
+//! Extension, and strict extension on the same calls.
 
+use compare::extensions::{report, tallies, Tallies, EXTENSIONS, STRICT};
 use compare::plain::batched::extend_batched;
-use compare::plain::extension::{by_row, column::*, extend_plain, opcode, Challenges, Kind, AUX_WIDTH, COLUMNS, WIDTH};
+use compare::plain::extension::{by_row, column::*, extend_plain, opcode, undecodable, Challenges, Kind, AUX_WIDTH, COLUMNS, WIDTH};
 use compare::plain::{self, Element};
 use compare::random::Random;
+use compare::rows::{mend, spoil};
 use compare::tally::Tally;
-use tealbobbin::abi;
 use tealbobbin::field::P;
 use tealbobbin::processor::{MAX_ROWS, WORK_WIDTH};
 
@@ -13,6 +14,10 @@ const RECORD: usize = tealbobbin::challenges::Challenges::WORDS;
 const INSTRUCTION: usize = 2;
 const U32: usize = 9;
 const CLOCK: usize = 10;
+
+/// What strict extension is to meet: where the rows are that do not decode, and other faults beside them.
+const KINDS: [&str; 6] =
+    ["row 0 alone undecodable", "the last row alone", "padding alone", "2 before 11", "11 before 6", "2 before 11 and 6"];
 
 /// A main table and challenges, and the lengths of the slices for columns and work.
 #[derive(Clone)]
@@ -72,7 +77,18 @@ fn row(random: &mut Random, flavour: u64, index: usize) -> Vec<u64> {
     row
 }
 
-/// Rows of one flavour, some of them repeated; the last ones may be padding.
+/// Makes row 0, the last row, one row or all padding rows undecodable.
+fn spoil_some(random: &mut Random, main: &mut [u64]) {
+    let (rows, which, one) = (main.len() / WIDTH, random.word() % 4, random.word() as usize);
+    for (r, row) in main.chunks_exact_mut(WIDTH).enumerate() {
+        if [r == 0, r == rows - 1, r == one % rows, row[IS_PADDING] == 1][which as usize] {
+            spoil(random, row);
+        }
+    }
+}
+
+/// Rows of one flavour, some of them repeated; the last ones may be padding. Of two tables one decodes throughout, of four one does
+/// but for some rows.
 fn table(random: &mut Random, rows: usize) -> Vec<u64> {
     let (flavour, repeating) = (random.word(), random.word() % 4 == 0);
     let mut main: Vec<u64> = vec![];
@@ -85,6 +101,13 @@ fn table(random: &mut Random, rows: usize) -> Vec<u64> {
     }
     if rows >= 2 && random.word() % 3 == 0 {
         plain::pad(&mut main, random.word() as usize % rows + 1);
+    }
+    let decodability = random.word() % 4;
+    if decodability < 3 {
+        mend(random, &mut main);
+    }
+    if decodability == 2 {
+        spoil_some(random, &mut main);
     }
     main
 }
@@ -105,7 +128,7 @@ impl Case {
         Case::new(table(random, rows), challenges(random))
     }
 
-    /// A table that no refusal covers, but for one chance in 2^100.
+    /// A table that no refusal of ordinary extension covers, but for one chance in 2^100.
     fn sound(random: &mut Random, rows: usize) -> Case {
         let challenges = (0..RECORD).map(|_| random.word() % P).collect();
         Case::new(table(random, rows), challenges)
@@ -153,51 +176,73 @@ impl Case {
         cells
     }
 
-    /// Every number and every lent slice, at each chunk length; answers the last number that was expected.
-    fn check(&self, tally: &mut Tally, random: &mut Random, chunks: &[usize]) -> u32 {
+    /// Every number and every lent slice, at each chunk length; answers the last numbers that were expected.
+    fn check(&self, tallies: &mut Tallies, random: &mut Random, chunks: &[usize]) -> [u32; 2] {
         let rows = self.rows();
         let whole = self.main.len() % WIDTH == 0 && self.challenges.len() == RECORD;
         let lengths = whole && self.aux == rows * AUX_WIDTH && self.work == rows * WORK_WIDTH;
         let counted = rows > 0 && rows <= MAX_ROWS;
         let below = self.main.iter().chain(&self.challenges).all(|&w| w < P);
-        let cells = if lengths && counted && below { self.cells(tally, random) } else { None };
-        let mut number = 0;
+        let undecodable = undecodable(&self.main);
+        let cells = if lengths && counted && below { self.cells(&mut tallies[0], random) } else { None };
+        let mut numbers = [0; 2];
         for &chunk in chunks {
-            number = if !lengths {
-                1
-            } else if !counted {
-                3
-            } else if chunk == 0 {
-                5
-            } else if !below {
-                2
-            } else if cells.is_none() {
-                6
-            } else {
-                0
+            let number = |strict: bool| {
+                if !lengths {
+                    1
+                } else if !counted {
+                    3
+                } else if chunk == 0 {
+                    5
+                } else if !below {
+                    2
+                } else if strict && !undecodable.is_empty() {
+                    11
+                } else if cells.is_none() {
+                    6
+                } else {
+                    0
+                }
             };
-            let (mut aux, mut work) = (any_words(random, self.aux), any_words(random, self.work));
-            let lent = |aux: &[u64], work: &[u64]| [aux, work, &self.main, &self.challenges].concat();
-            let before = lent(&aux, &work);
-            let expected = cells.as_ref().map_or(vec![], |cells| lent(cells, &vec![0; self.work]));
-            let got = abi::extend(&self.main, &self.challenges, chunk, &mut aux, &mut work);
-            let shape = [self.main.len(), self.challenges.len(), chunk, self.aux, self.work].map(|n| n as u64);
-            tally.check("extend", &shape, &before, (got, &lent(&aux, &work)), number, &expected);
+            numbers = [number(false), number(true)];
+            if numbers[STRICT] == 11 {
+                self.count_places(&mut tallies[STRICT], &undecodable);
+            }
+            for (k, (name, extend)) in EXTENSIONS.into_iter().enumerate() {
+                let (mut aux, mut work) = (any_words(random, self.aux), any_words(random, self.work));
+                let lent = |aux: &[u64], work: &[u64]| [aux, work, &self.main, &self.challenges].concat();
+                let before = lent(&aux, &work);
+                let expected = cells.as_ref().map_or(vec![], |cells| lent(cells, &vec![0; self.work]));
+                let got = extend(&self.main, &self.challenges, chunk, &mut aux, &mut work);
+                let shape = [self.main.len(), self.challenges.len(), chunk, self.aux, self.work].map(|n| n as u64);
+                tallies[k].check(name, &shape, &before, (got, &lent(&aux, &work)), numbers[k], &expected);
+            }
         }
-        number
+        numbers
     }
 
-    /// As above, where only one number can be meant.
-    fn expect(&self, tally: &mut Tally, random: &mut Random, chunk: usize, number: u32) {
-        let meant = self.check(tally, random, &[chunk]);
+    /// Counts the kinds of a table by the rows of it that do not decode.
+    fn count_places(&self, tally: &mut Tally, undecodable: &[usize]) {
+        let rows = self.rows();
+        let padding = undecodable.iter().all(|r| self.main[r * WIDTH + IS_PADDING] == 1);
+        for (kind, met) in [undecodable == [0] && rows > 1, undecodable == [rows - 1] && rows > 1, padding].into_iter().enumerate() {
+            if met {
+                tally.count(kind);
+            }
+        }
+    }
+
+    /// As above, where ordinary extension can mean only one number.
+    fn expect(&self, tallies: &mut Tallies, random: &mut Random, chunk: usize, number: u32) {
+        let [meant, _] = self.check(tallies, random, &[chunk]);
         if meant != number {
-            tally.differ(format!("extend, {} rows: a case for {number} is one for {meant}", self.rows()));
+            tallies[0].differ(format!("extend, {} rows: a case for {number} is one for {meant}", self.rows()));
         }
     }
 }
 
 /// Each slice longer and shorter by a word and by a row, empty, and of the length for a row more or less.
-fn lengths(tally: &mut Tally, random: &mut Random) {
+fn lengths(tallies: &mut Tallies, random: &mut Random) {
     for rows in [0, 1, 2, 5] {
         let whole = Case::sound(random, rows);
         let spare = table(random, 2);
@@ -219,34 +264,39 @@ fn lengths(tally: &mut Tally, random: &mut Random) {
                 if slices & 8 != 0 {
                     case.work = changed(whole.work);
                 }
-                case.check(tally, random, &[2, 0]);
+                case.check(tallies, random, &[2, 0]);
             }
         }
     }
 }
 
 /// A word that is not below p in every place of a table and of the challenges.
-fn bad_words(tally: &mut Tally, random: &mut Random) {
+fn bad_words(tallies: &mut Tallies, random: &mut Random) {
     let whole = Case::sound(random, 3);
     for bad in [P, P + 1, u64::MAX] {
         for place in 0..3 * WIDTH {
             let mut case = whole.clone();
             case.main[place] = bad;
-            case.expect(tally, random, 1 + place % 4, 2);
+            case.expect(tallies, random, 1 + place % 4, 2);
         }
         for place in 0..RECORD {
             let mut case = whole.clone();
             case.challenges[place] = bad;
-            case.expect(tally, random, 1 + place % 4, 2);
+            case.expect(tallies, random, 1 + place % 4, 2);
         }
     }
 }
 
 /// Each set of faults: the first of them in order is answered.
-fn several_faults(tally: &mut Tally, random: &mut Random) {
+fn several_faults(tallies: &mut Tallies, random: &mut Random) {
     for round in 0..6400 {
-        let [length, no_rows, no_chunk, bad, zero]: [bool; 5] = std::array::from_fn(|k| round >> k & 1 == 1);
+        let [length, no_rows, no_chunk, bad, spoiled, zero]: [bool; 6] = std::array::from_fn(|k| round >> k & 1 == 1);
         let mut case = Case::sound(random, if no_rows { 0 } else { 1 + round % 5 });
+        mend(random, &mut case.main);
+        if spoiled && !no_rows {
+            let row = random.word() as usize % case.rows();
+            spoil(random, &mut case.main[row * WIDTH..][..WIDTH]);
+        }
         if zero && !no_rows {
             case.main[CLK] = 7;
             case.main[MULTIPLICITY] = 1;
@@ -266,14 +316,22 @@ fn several_faults(tally: &mut Tally, random: &mut Random) {
             }
         }
         let chunk = if no_chunk { 0 } else { 1 + random.word() as usize % 7 };
-        let faults = [(length, 1), (no_rows, 3), (no_chunk, 5), (bad, 2), (zero, 6)];
-        let first = faults.into_iter().find(|fault| fault.0).map_or(0, |fault| fault.1);
-        case.expect(tally, random, chunk, first);
+        let first = |strict: bool| {
+            let faults = [(length, 1), (no_rows, 3), (no_chunk, 5), (bad, 2), (spoiled && strict, 11), (zero, 6)];
+            faults.into_iter().find(|fault| fault.0).map_or(0, |fault| fault.1)
+        };
+        let (meant, due) = (case.check(tallies, random, &[chunk]), [first(false), first(true)]);
+        if meant != due {
+            tallies[STRICT].differ(format!("extend, {} rows: a case for {due:?} is one for {meant:?}", case.rows()));
+        }
+        if spoiled && !(length || no_rows || no_chunk) && (bad || zero) {
+            tallies[STRICT].count(2 + bad as usize + 2 * zero as usize);
+        }
     }
 }
 
 /// Every entry of a lookup column with denominator zero; rows without an entry, whose denominator would be zero.
-fn zero_denominators(tally: &mut Tally, random: &mut Random) {
+fn zero_denominators(tallies: &mut Tallies, random: &mut Random) {
     for round in 0..150 {
         let mut case = Case::sound(random, 1 + round % 9);
         for row in case.main.chunks_exact_mut(WIDTH) {
@@ -288,7 +346,7 @@ fn zero_denominators(tally: &mut Tally, random: &mut Random) {
             for element in case.elements(column) {
                 let mut case = case.clone();
                 case.aim(column, element);
-                case.expect(tally, random, 1 + round % 11, 6);
+                case.expect(tallies, random, 1 + round % 11, 6);
             }
         }
         let clocks = case.elements(CLOCK);
@@ -296,7 +354,7 @@ fn zero_denominators(tally: &mut Tally, random: &mut Random) {
             if !clocks.contains(&clk) {
                 let mut case = case.clone();
                 case.aim(CLOCK, clk);
-                case.expect(tally, random, 1 + round % 11, 0);
+                case.expect(tallies, random, 1 + round % 11, 0);
             }
         }
         let mut unpadded = case.clone();
@@ -306,34 +364,37 @@ fn zero_denominators(tally: &mut Tally, random: &mut Random) {
             if !instructions.contains(&element) {
                 let mut case = case.clone();
                 case.aim(INSTRUCTION, element);
-                case.expect(tally, random, 1 + round % 11, 0);
+                case.expect(tallies, random, 1 + round % 11, 0);
             }
         }
     }
 }
 
-/// The largest number of rows and one more, over zeros that are to stay zeros.
-fn long(tally: &mut Tally) {
-    for (rows, chunk, bad, number) in [(MAX_ROWS, 0, false, 5), (MAX_ROWS, 4096, true, 2), (MAX_ROWS + 1, 4096, false, 3), (MAX_ROWS + 1, 0, true, 3)] {
+/// The largest number of rows and one more, over zeros that are to stay zeros, with CI of the last row not below p or no opcode.
+fn long(tallies: &mut Tallies) {
+    for (rows, chunk, ci, number) in
+        [(MAX_ROWS, 0, 0, 5), (MAX_ROWS, 4096, P, 2), (MAX_ROWS + 1, 4096, 0, 3), (MAX_ROWS + 1, 0, P, 3), (MAX_ROWS, 4096, 5, 11)]
+    {
         let mut main = vec![0; rows * WIDTH];
-        if bad {
-            *main.last_mut().unwrap() = P;
-        }
+        main[(rows - 1) * WIDTH + CI] = ci;
         let (mut aux, mut work) = (vec![0; rows * AUX_WIDTH], vec![0; rows * WORK_WIDTH]);
-        let got = abi::extend(&main, &[2; RECORD], chunk, &mut aux, &mut work);
-        let written = aux.iter().chain(&work).filter(|&&w| w != 0).count() as u64;
-        tally.check("extend", &[rows as u64, chunk as u64], &[0], (got, &[written]), number, &[0]);
+        for (k, (name, extend)) in EXTENSIONS.into_iter().enumerate().skip(if number == 11 { STRICT } else { 0 }) {
+            let got = extend(&main, &[2; RECORD], chunk, &mut aux, &mut work);
+            let written = aux.iter().chain(&work).filter(|&&w| w != 0).count() as u64;
+            tallies[k].check(name, &[rows as u64, chunk as u64], &[0], (got, &[written]), number, &[0]);
+        }
     }
 }
 
-/// Every height up to 64 with every chunk length up to two more; `count` random tables, most of them low; taller ones; refusals.
+/// Every height up to 64 with every chunk length up to two more; `count` random tables, most of them low; taller ones, which decode
+/// throughout, then but for the last row; refusals.
 pub fn compare(random: &mut Random, count: u64) -> bool {
-    let mut tally = Tally::new("extend");
+    let mut tallies = tallies(&KINDS);
     for rows in 1..=64 {
         for chunk in (1..=rows + 2).step_by(2) {
-            Case::sound(random, rows).check(&mut tally, random, &[chunk, chunk + 1]);
+            Case::sound(random, rows).check(&mut tallies, random, &[chunk, chunk + 1]);
         }
-        Case::random(random, rows).check(&mut tally, random, &[0, usize::MAX / 2, usize::MAX]);
+        Case::random(random, rows).check(&mut tallies, random, &[0, usize::MAX / 2, usize::MAX]);
     }
     for _ in 0..count {
         let most = [4, 8, 16, 64][random.word() as usize % 4];
@@ -344,15 +405,19 @@ pub fn compare(random: &mut Random, count: u64) -> bool {
             case.aim_at_an_entry(random, column);
         }
         let chunks = [1 + random.word() as usize % (rows + 2), [1, 2, 3, rows, usize::MAX][random.word() as usize % 5]];
-        case.check(&mut tally, random, &chunks);
+        case.check(&mut tallies, random, &chunks);
     }
     for (rows, chunk) in [(1_000, 1), (1_000, 999), (5_000, 1_024), (20_000, 4_096), (20_000, usize::MAX)] {
-        Case::sound(random, rows).check(&mut tally, random, &[chunk]);
+        let mut case = Case::sound(random, rows);
+        mend(random, &mut case.main);
+        case.check(&mut tallies, random, &[chunk]);
+        spoil(random, &mut case.main[(rows - 1) * WIDTH..]);
+        case.check(&mut tallies, random, &[chunk]);
     }
-    lengths(&mut tally, random);
-    bad_words(&mut tally, random);
-    several_faults(&mut tally, random);
-    zero_denominators(&mut tally, random);
-    long(&mut tally);
-    tally.report()
+    lengths(&mut tallies, random);
+    bad_words(&mut tallies, random);
+    several_faults(&mut tallies, random);
+    zero_denominators(&mut tallies, random);
+    long(&mut tallies);
+    report(tallies)
 }

@@ -1,11 +1,11 @@
-//! Extension, with the original's panics as refusals.
+//! Extension, with the original's panics as refusals; and strict extension on the same calls.
 
+use compare::extensions::{EXTENSIONS, STRICT, Tallies, report, tallies};
 use compare::plain::extension::COLUMNS;
+use compare::plain::extension::column::{CI, NIA};
 use compare::random::Random;
-use compare::tally::Tally;
 use oracle::MAIN_WIDTH as WIDTH;
 use oracle::rows::{ARGUMENTS, OPCODES, OTHERS, REALISTIC, WORST, any_row, any_table, challenges, mixed, row, symbols};
-use tealbobbin::abi::extend;
 use tealbobbin::field::P;
 use tealbobbin::processor::MAX_ROWS;
 
@@ -45,65 +45,72 @@ impl Case<'_> {
         }
     }
 
-    fn check(&self, tally: &mut Tally, random: &mut Random) {
-        let (mut number, mut expected) = (self.refusal(), vec![]);
+    fn check(&self, tallies: &mut Tallies, random: &mut Random) {
+        let (mut number, mut strict, mut expected) = (self.refusal(), self.refusal(), vec![]);
         if number == 0 {
             match oracle::extend(self.main, self.challenges) {
-                Ok(aux) => {
-                    tally.rows += (self.main.len() / WIDTH) as u64;
-                    expected = [aux, vec![0; self.work]].concat();
-                }
+                Ok(aux) => expected = [aux, vec![0; self.work]].concat(),
                 Err(_) => number = 6,
             }
+            strict = number;
+            if !self.main.chunks_exact(WIDTH).all(|row| oracle::decode(row[CI], row[NIA])[0] == 1) {
+                strict = 11;
+                tallies[STRICT].count(if number == 0 { 0 } else { 1 });
+            }
         }
-        let before: Vec<u64> = (0..self.aux + self.work).map(|_| random.any()).collect();
-        let mut after = before.clone();
-        let (aux, work) = after.split_at_mut(self.aux);
-        let got = extend(self.main, self.challenges, self.chunk, aux, work);
-        tally.check("extend", &[self.main.len() as u64, self.chunk as u64], &before, (got, &after), number, &expected);
+        for ((tally, (name, extend)), number) in tallies.iter_mut().zip(EXTENSIONS).zip([number, strict]) {
+            let before: Vec<u64> = (0..self.aux + self.work).map(|_| random.any()).collect();
+            let mut after = before.clone();
+            let (aux, work) = after.split_at_mut(self.aux);
+            let got = extend(self.main, self.challenges, self.chunk, aux, work);
+            tally.check(name, &[self.main.len() as u64, self.chunk as u64], &before, (got, &after), number, &expected);
+            if number == 0 {
+                tally.rows += (self.main.len() / WIDTH) as u64;
+            }
+        }
     }
 }
 
-fn check(tally: &mut Tally, random: &mut Random, main: &[u64], challenges: &[u64]) {
+fn check(tallies: &mut Tallies, random: &mut Random, main: &[u64], challenges: &[u64]) {
     let rows = main.len() / WIDTH;
     let chunk = chunk(random, rows);
-    case(main, challenges, chunk, 33 * rows, 6 * rows).check(tally, random);
+    case(main, challenges, chunk, 33 * rows, 6 * rows).check(tallies, random);
 }
 
-fn any_check(tally: &mut Tally, random: &mut Random, main: &[u64]) {
+fn any_check(tallies: &mut Tallies, random: &mut Random, main: &[u64]) {
     let challenges = challenges(random);
-    check(tally, random, main, &challenges);
+    check(tallies, random, main, &challenges);
 }
 
 /// Each instruction and each word that is none, with arguments of each class, under each mark of padding before and after.
-fn windows(tally: &mut Tally, random: &mut Random) {
+fn windows(tallies: &mut Tallies, random: &mut Random) {
     for ci in OPCODES.into_iter().chain(OTHERS) {
         for nia in ARGUMENTS {
             for [previous, current] in [0, 1, 2].map(|a| [0, 1, P - 1].map(|b| [a, b])).concat() {
                 let after = any_row(random);
                 let main = [row(random, ci, nia, previous), row(random, after[3], after[4], current)].concat();
-                any_check(tally, random, &main);
+                any_check(tallies, random, &main);
             }
         }
     }
 }
 
 /// Each instruction after each.
-fn pairs(tally: &mut Tally, random: &mut Random) {
+fn pairs(tallies: &mut Tallies, random: &mut Random) {
     for first in OPCODES {
         for second in OPCODES {
             let rows: [Vec<u64>; 3] = [first, second, first].map(|ci| {
                 let nia = random.word() % 5 + 1;
                 row(random, ci, nia, 0)
             });
-            any_check(tally, random, &rows.concat());
+            any_check(tallies, random, &rows.concat());
         }
     }
 }
 
 /// A column's indeterminate set to one of its entries: a zero denominator or a factor 0. Or to what a row that is silent would
 /// enter into the instruction or clock column.
-fn zeros(tally: &mut Tally, random: &mut Random) {
+fn zeros(tallies: &mut Tallies, random: &mut Random) {
     let rows = random.word() as usize % 20 + 1;
     let mut main = any_table(random, rows);
     let mut challenges = challenges(random);
@@ -122,39 +129,39 @@ fn zeros(tally: &mut Tally, random: &mut Random) {
     }
     let element = found[random.word() as usize % found.len()];
     challenges[3 * COLUMNS[column].0..][..3].copy_from_slice(&element);
-    check(tally, random, &main, &challenges);
+    check(tallies, random, &main, &challenges);
 }
 
 /// Lengths of slices, heights, chunk lengths and words that are refused.
-fn refusals(tally: &mut Tally, random: &mut Random) {
+fn refusals(tallies: &mut Tallies, random: &mut Random) {
     let challenges = challenges(random);
     let main = any_table(random, 3);
     for words in 0..4 * WIDTH {
         let main = any_table(random, 4);
-        case(&main[..words], &challenges, 1, 33 * (words / WIDTH), 6 * (words / WIDTH)).check(tally, random);
+        case(&main[..words], &challenges, 1, 33 * (words / WIDTH), 6 * (words / WIDTH)).check(tallies, random);
     }
     for length in 180..200 {
         let challenges: Vec<u64> = (0..length).map(|_| random.base()).collect();
-        case(&main, &challenges, 1, 99, 18).check(tally, random);
+        case(&main, &challenges, 1, 99, 18).check(tallies, random);
     }
     for aux in (0..110).chain([132, 198]) {
-        case(&main, &challenges, 1, aux, 18).check(tally, random);
+        case(&main, &challenges, 1, aux, 18).check(tallies, random);
     }
     for work in (0..25).chain([36]) {
-        case(&main, &challenges, 1, 99, work).check(tally, random);
+        case(&main, &challenges, 1, 99, work).check(tallies, random);
     }
-    case(&main, &challenges, 0, 99, 18).check(tally, random);
-    case(&[], &challenges, 0, 0, 0).check(tally, random);
+    case(&main, &challenges, 0, 99, 18).check(tallies, random);
+    case(&[], &challenges, 0, 0, 0).check(tallies, random);
     for bad in [P, u64::MAX] {
         for place in 0..main.len() {
             let mut main = main.clone();
             main[place] = bad;
-            case(&main, &challenges, place % 2, 99, 18).check(tally, random);
+            case(&main, &challenges, place % 2, 99, 18).check(tallies, random);
         }
         for place in 0..189 {
             let mut challenges = challenges.clone();
             challenges[place] = bad;
-            case(&main, &challenges, place % 2, 99, 18).check(tally, random);
+            case(&main, &challenges, place % 2, 99, 18).check(tallies, random);
         }
     }
 }
@@ -162,33 +169,33 @@ fn refusals(tally: &mut Tally, random: &mut Random) {
 /// Windows of every kind, tables of 1 to 256 rows, tall ones around the original's own chunks and up to 2^16, zero
 /// denominators and refusals.
 pub fn compare(random: &mut Random, count: u64, rows_compared: &mut u64) -> bool {
-    let mut tally = Tally::new("extend");
+    let mut tallies = tallies(&["11 where the original extends", "11 where it panics"]);
     if oracle::extend(&[], &challenges(random)).is_ok() {
-        tally.differ("the original extends a table without rows".to_string());
+        tallies[0].differ("the original extends a table without rows".to_string());
     }
     for _ in 0..count.div_ceil(1_000) {
-        windows(&mut tally, random);
-        pairs(&mut tally, random);
-        refusals(&mut tally, random);
+        windows(&mut tallies, random);
+        pairs(&mut tallies, random);
+        refusals(&mut tallies, random);
         let rows = random.word() as usize % (1 << 16) + 1;
         let main = any_table(random, rows);
-        any_check(&mut tally, random, &main);
+        any_check(&mut tallies, random, &main);
     }
     for i in 0..count {
         let main = any_table(random, i as usize % 256 + 1);
-        any_check(&mut tally, random, &main);
+        any_check(&mut tallies, random, &main);
         for _ in 0..10 {
-            zeros(&mut tally, random);
+            zeros(&mut tallies, random);
         }
     }
     for rows in [1023, 1024, 1025, 4095, 4096, 4097, 5000, 16_384, 65_536] {
         let main = any_table(random, rows);
-        any_check(&mut tally, random, &main);
+        any_check(&mut tallies, random, &main);
         for mix in [REALISTIC, WORST] {
             let main = mixed(random, mix, rows, rows / 4, 3);
-            any_check(&mut tally, random, &main);
+            any_check(&mut tallies, random, &main);
         }
     }
-    *rows_compared += tally.rows;
-    tally.report()
+    *rows_compared += tallies[0].rows;
+    report(tallies)
 }

@@ -10,7 +10,8 @@ use Rattle.refusal.specs.declared.Answer.the-variants.{Done, Refused}
 use Rattle.refusal.specs.declared.Refusal.{Refusal}
 use Rattle.batch_reader.specs.declared.Counts.{Counts}
 use Rattle.challenges.specs.Derived.{challengesAnswer, challengesRecord}
-use Rattle.terminals_cells.specs.Terminals.{zeros, tableAnswer, tableCells, openedAnswer, openedCells}
+use Rattle.batch.specs.Lent.{zeros}
+use Rattle.terminals_cells.specs.Terminals.{tableAnswer, tableCells, openedAnswer, openedCells}
 use borrow.Author.Needs.{needs}
 use Rattle.terminals_cells.proofs.unchecked.opened_cells.Statement.{statement}
 use Rattle.terminals_cells.proofs.unchecked.opened_cells.Tie as tie

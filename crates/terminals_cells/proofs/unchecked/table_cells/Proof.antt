@@ -4,7 +4,8 @@ use Prim.Native.Nat.{_*_}
 use native.Mathlib.Omega.{arith}
 use lib.ListN.{length}
 use Rattle.refusal.specs.Number.{onDone}
-use Rattle.terminals_cells.specs.Terminals.{zeros, filledAnswer, filledCells, tableAnswer, tableCells}
+use Rattle.batch.specs.Lent.{zeros}
+use Rattle.terminals_cells.specs.Terminals.{filledAnswer, filledCells, tableAnswer, tableCells}
 use Rattle.terminals_cells.proofs.Zeros.{take-zeros, length-zeros}
 use borrow.Author.Needs.{needs}
 use Rattle.terminals_cells.proofs.unchecked.table_cells.Statement.{statement}

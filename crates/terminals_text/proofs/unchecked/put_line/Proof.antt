@@ -2,8 +2,8 @@
 use Prim.Native.Nat.{_+_, _*_}
 use native.Mathlib.Omega.{arith}
 use lib.ListN.{getD}
-use Rattle.terminals_text.specs.Text.{word}
-use Rattle.terminals_text.proofs.Stores.{Put, then}
+use Rattle.text.specs.Text.{word}
+use Rattle.text.proofs.Stores.{Put, then}
 use borrow.Author.Needs.{needs}
 use Rattle.terminals_text.proofs.unchecked.put_line.Statement.{statement}
 use Rattle.terminals_text.proofs.unchecked.put_line.Tie as tie

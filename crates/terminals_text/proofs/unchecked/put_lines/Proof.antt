@@ -9,7 +9,7 @@ use lib.ListN.{length}
 use Rattle.table_rows.specs.Rows.{rowsFrom}
 use Rattle.table_rows.proofs.Rows.{split-rows}
 use Rattle.terminals_text.specs.Text.{line, lines}
-use Rattle.terminals_text.proofs.Stores.{Put, then, put-as}
+use Rattle.text.proofs.Stores.{Put, then, put-as}
 use Rattle.terminals_text.proofs.unchecked.put_lines.Statement.{statement}
 use Rattle.terminals_text.proofs.unchecked.put_lines.Tie as tie
 

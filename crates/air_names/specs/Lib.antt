@@ -1,0 +1,3 @@
+-- The names of instructions.
+pub mod Name
+pub mod Instruction

@@ -1,0 +1,42 @@
+-- The counts of an opened batch lie within the slices.
+use mathlib.Core.Path.{_≡_, refl, sym}
+use mathlib.Core.Bool.{Bool, true, false, cond, _||_}
+use mathlib.Core.List.{List}
+use Prim.Native.Nat.{ℕ}
+use native.Mathlib.Omega.{arith}
+use lib.Dec.{ltb, lit<}
+use lib.ListN.{length}
+use Rattle.refusal.specs.declared.Refusal.the-variants.{SliceLength}
+use Rattle.batch_reader.specs.declared.Counts.{Counts}
+use Rattle.batch_reader.specs.declared.OpenAnswer.{OpenAnswer}
+use Rattle.batch_reader.specs.declared.OpenAnswer.the-variants.{Opened, Refused}
+use Rattle.batch_commands.specs.Format.{ROW, OP-STACK, RAM, JUMP-STACK, INPUT, OUTPUT, Command}
+use Rattle.batch_reader.specs.Commands.{counts}
+use Rattle.batch_reader.specs.Reading.{Reading, read, refused, reading}
+use Rattle.batch_reader.specs.Answers.{countsIn, answerOf}
+use Rattle.batch.specs.Open.{openAnswer}
+use Rattle.batch.specs.Lent.{Within}
+use Rattle.batch_reader.proofs.Bounds.{Bounded, bounded}
+
+of-commands : (ks : List Command) → Bounded ks → Within (countsIn (counts ks)) 1248 128 128 128 64 64
+of-commands ks b =
+    record {
+      in-trace = omega (arith, b .few-rows, b .within ROW (lit< tt));
+      in-op-stack = b .within OP-STACK (lit< tt);
+      in-ram = b .within RAM (lit< tt);
+      in-jump-stack = b .within JUMP-STACK (lit< tt);
+      in-input = b .within INPUT (lit< tt);
+      in-output = b .within OUTPUT (lit< tt);
+    }
+
+by-reading : (batch : List ℕ) (r : Reading) (counts : Counts) → reading batch ≡ r → answerOf r ≡ Opened counts → Within counts 1248 128 128 128 64 64
+by-reading batch (read ks) counted e a = let same : countsIn (counts ks) ≡ counted = cc in rw (sym same) (of-commands ks (bounded batch ks e))
+by-reading batch (refused refusal) counted e a = let z : _≡_ {A = ℕ} 0 1 = cc in absurd (omega arith)
+
+not-long : (long : Bool) (answer : OpenAnswer) (counts : Counts) → cond (long || false) (Refused SliceLength) answer ≡ Opened counts → answer ≡ Opened counts
+not-long true answer counts e = let z : _≡_ {A = ℕ} 0 1 = cc in absurd (omega arith)
+not-long false answer counts e = e
+
+pub within-opened : (batch : List ℕ) (counts : Counts) → openAnswer batch 1248 128 128 128 177 5 64 64 ≡ Opened counts → Within counts 1248 128 128 128 64 64
+unfolding openAnswer
+within-opened batch counts e = by-reading batch (reading batch) counts refl (not-long (ltb 16384 (length batch)) (answerOf (reading batch)) counts e)

@@ -1,0 +1,95 @@
+-- A loop over the rows, where one that does not decode decides and one that does leaves the others to; and what is turned away.
+use mathlib.Core.Path.{_≡_, refl, sym, ap, _∙_}
+use mathlib.Core.Bool.{Bool, true, false, cond, not, _&&_, and-assoc}
+use mathlib.Core.List.{List, [], _∷_, _++_}
+use Prim.Native.Nat.{ℕ, suc, _+_, _-_, _*_, _≤_, _<_}
+use native.Mathlib.Omega.{arith}
+use lib.Dec.{ltb}
+use lib.ListN.{length, take, drop, take-append-drop, length-drop}
+use lib.Seq.{drop-drop, take-all}
+use Rattle.algebra.specs.Modulus.{p}
+use Rattle.field_base.specs.Words.{allBelow}
+use borrow.Author.Tests.{not-false}
+use Rattle.refusal.specs.declared.Refusal.{Refusal}
+use Rattle.refusal.specs.declared.Answer.{Answer}
+use Rattle.refusal.specs.declared.Answer.the-variants.{Done, Refused}
+use Rattle.refusal.specs.declared.Refusal.the-variants.{WordNotBelowP, ZeroDenominator, UndecodableRow}
+use Rattle.refusal.proofs.Answers.{past}
+use Rattle.table_rows.specs.Rows.{rowAt}
+use Rattle.column_entries.specs.Row.{instructionOf}
+use Rattle.extend_answer.specs.Strict.{isRead, undecodableFrom, behindEleven, turnedAway}
+
+-- the words from a row's start to its end
+pub row-part : (main : List ℕ) (c : ℕ) → take (c * 39 + 39 - c * 39) (drop (c * 39) main) ≡ rowAt main c
+row-part main c = let e : c * 39 + 39 - c * 39 ≡ 39 = omega arith in ap (λ n. take n (drop (c * 39) main)) e
+
+pub rest-part : (main : List ℕ) (n : ℕ) → take (length main - n) (drop n main) ≡ drop n main
+rest-part main n = take-all (length main - n) (drop n main) (omega (arith, length-drop n main))
+
+-- and what follows them
+row-and-rest : (main : List ℕ) (c : ℕ) → drop (c * 39) main ≡ rowAt main c ++ drop ((c + 1) * 39) main
+row-and-rest main c =
+    let e : c * 39 + 39 ≡ (c + 1) * 39 = omega arith in
+    sym (take-append-drop 39 (drop (c * 39) main)) ∙ ap (λ l. rowAt main c ++ l) (drop-drop 39 (c * 39) main ∙ ap (λ n. drop n main) e)
+
+both-below : (us vs : List ℕ) → allBelow (us ++ vs) ≡ (allBelow us && allBelow vs)
+unfolding allBelow
+both-below [] vs = refl
+both-below (u ∷ us) vs = ap (λ b. ltb u p && b) (both-below us vs) ∙ sym (and-assoc (ltb u p) (allBelow us) (allBelow vs))
+
+module _ (main : List ℕ) (c n : ℕ) where
+  pub from-start : undecodableFrom main 0 n ≡ undecodableFrom main 0 (n - 0)
+  from-start = let e : n ≡ n - 0 = omega arith in ap (undecodableFrom main 0) e
+
+  pub row-fails : c < n → isRead (instructionOf (rowAt main c)) ≡ false → undecodableFrom main c (n - c) ≡ true
+  unfolding undecodableFrom
+  row-fails h r =
+      let e : n - c ≡ suc (n - suc c) = omega arith in
+      ap (undecodableFrom main c) e ∙ rw r
+
+  pub row-decodes : c < n → isRead (instructionOf (rowAt main c)) ≡ true → undecodableFrom main c (n - c) ≡ undecodableFrom main (c + 1) (n - (c + 1))
+  unfolding undecodableFrom
+  row-decodes h r =
+      let e : n - c ≡ suc (n - (c + 1)) = omega arith in
+      let f : suc c ≡ c + 1 = omega arith in
+      ap (undecodableFrom main c) e ∙ rw r (ap (λ k. undecodableFrom main k (n - (c + 1))) f)
+
+  pub row-not-below : allBelow (rowAt main c) ≡ false → allBelow (drop (c * 39) main) ≡ false
+  row-not-below e = ap allBelow (row-and-rest main c) ∙ both-below (rowAt main c) (drop ((c + 1) * 39) main) ∙ rw e
+
+  pub row-below : allBelow (rowAt main c) ≡ true → allBelow (drop (c * 39) main) ≡ allBelow (drop ((c + 1) * 39) main)
+  row-below e = ap allBelow (row-and-rest main c) ∙ both-below (rowAt main c) (drop ((c + 1) * 39) main) ∙ rw e
+
+  pub no-row-left : n ≤ c → undecodableFrom main c (n - c) ≡ false
+  unfolding undecodableFrom
+  no-row-left h = let e : n - c ≡ 0 = omega arith in ap (undecodableFrom main c) e
+
+-- 1, 3, 5 and 2 stand before 11
+before-eleven : (t : Bool) (a : Answer) → behindEleven a ≡ false → turnedAway t a ≡ a
+before-eleven false a e = refl
+before-eleven true a e = rw e
+
+pub still : (t : Bool) {a b : Answer} → a ≡ b → behindEleven b ≡ false → turnedAway t a ≡ b
+still t e f = ap (turnedAway t) e ∙ before-eleven t _ f
+
+-- the table's own tests in one, where 2 stands before 11 and 6 behind it
+abbrev tests : (below turn : Bool) → Answer
+tests below turn = cond (not below) (Refused WordNotBelowP) (cond turn (Refused UndecodableRow) Done)
+
+abbrev pub answers : (below zero : Bool) → Answer
+answers below zero = cond (not below) (Refused WordNotBelowP) (cond zero (Refused ZeroDenominator) Done)
+
+pub refused-by-rows : (below turn zero : Bool) {r : Refusal} → tests below turn ≡ Refused r → turnedAway turn (answers below zero) ≡ Refused r
+refused-by-rows false false zero e = e
+refused-by-rows false true zero e = e
+refused-by-rows true true true e = e
+refused-by-rows true true false e = e
+refused-by-rows true false zero e = let z : _≡_ {A = ℕ} 0 1 = cc in absurd (omega arith)
+
+pub past-rows : (below turn : Bool) → tests below turn ≡ Done → (below ≡ true) × (turn ≡ false)
+past-rows below turn e =
+    let words = past (not below) WordNotBelowP (cond turn (Refused UndecodableRow) Done) e in
+    (not-false below (words .0), past turn UndecodableRow Done (words .1) .0)
+
+pub done-plainly : (t : Bool) (a : Answer) → turnedAway t a ≡ Done → a ≡ Done
+done-plainly t a e = past (t && behindEleven a) UndecodableRow a e .1

@@ -1,0 +1,2 @@
+-- What the program `inspect` prints of a batch.
+pub mod Text

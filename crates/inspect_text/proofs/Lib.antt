@@ -1,0 +1,2 @@
+-- The proof of the theorem in specs/.
+pub mod Theorems

@@ -1,0 +1,3 @@
+-- What `inspect` prints of a trace.
+pub mod Text
+pub mod Theorems

@@ -1,0 +1,2 @@
+// The text that the program `inspect` prints of a trace.
+pub mod unchecked;

@@ -1,0 +1,2 @@
+-- What reading ensures.
+pub mod Input

@@ -1,0 +1,3 @@
+-- Numbers and refusals as text.
+pub mod Ascii
+pub mod Text
