@@ -5,8 +5,8 @@ use mathlib.Core.List.{List, [], _∷_, _++_}
 use Prim.Native.Nat.{ℕ, suc, _+_, _-_, _*_, _≤_, _<_}
 use native.Mathlib.Omega.{arith}
 use lib.Dec.{ltb}
-use lib.ListN.{length, take, drop, take-append-drop, length-drop}
-use lib.Seq.{drop-drop, take-all}
+use lib.ListN.{drop, take-append-drop}
+use lib.Seq.{drop-drop}
 use Rattle.algebra.specs.Modulus.{p}
 use Rattle.field_base.specs.Words.{allBelow}
 use borrow.Author.Tests.{not-false}
@@ -19,14 +19,7 @@ use Rattle.table_rows.specs.Rows.{rowAt}
 use Rattle.column_entries.specs.Row.{instructionOf}
 use Rattle.extend_answer.specs.Strict.{isRead, undecodableFrom, behindEleven, turnedAway}
 
--- the words from a row's start to its end
-pub row-part : (main : List ℕ) (c : ℕ) → take (c * 39 + 39 - c * 39) (drop (c * 39) main) ≡ rowAt main c
-row-part main c = let e : c * 39 + 39 - c * 39 ≡ 39 = omega arith in ap (λ n. take n (drop (c * 39) main)) e
-
-pub rest-part : (main : List ℕ) (n : ℕ) → take (length main - n) (drop n main) ≡ drop n main
-rest-part main n = take-all (length main - n) (drop n main) (omega (arith, length-drop n main))
-
--- and what follows them
+-- a row and what follows it
 row-and-rest : (main : List ℕ) (c : ℕ) → drop (c * 39) main ≡ rowAt main c ++ drop ((c + 1) * 39) main
 row-and-rest main c =
     let e : c * 39 + 39 ≡ (c + 1) * 39 = omega arith in

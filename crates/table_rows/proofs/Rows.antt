@@ -5,7 +5,7 @@ use Prim.Native.Nat.{ℕ, zero, suc, _+_, _-_, _*_, _≤_, _<_}
 use native.Mathlib.Nat.{zero-add, add-zero, suc-add, suc-mul, add-mul, zero-mul}
 use native.Mathlib.Omega.{arith}
 use lib.ListN.{length, take, drop, getD, set, length-append, length-drop, take-append-drop, drop-of-length-le, List·getD-append}
-use lib.Seq.{sets, sets-eq, take-add, drop-drop, length-take-le, take-at, drop-at, getD-append-add, set-append-left}
+use lib.Seq.{sets, sets-eq, take-all, take-add, drop-drop, length-take-le, take-at, drop-at, getD-append-add, set-append-left}
 use Rattle.table_rows.specs.Rows.{rowAt, rowsFrom}
 use Rattle.table_rows.specs.Writes.{withRow, withRows}
 
@@ -18,10 +18,21 @@ split-rows row c (suc n) m =
     let e₂ : c + suc n ≡ suc c + n = omega arith in
     rw (e₁, e₂, split-rows row (suc c) n m, append-assoc)
 
+pub one-more-row : (row : ℕ → List ℕ) (n : ℕ) → rowsFrom row 0 (n + 1) ≡ rowsFrom row 0 n ++ row n
+unfolding rowsFrom
+one-more-row row n = split-rows row 0 n 1 ∙ ap (λ t. rowsFrom row 0 n ++ t) (append-nil (row (0 + n)) ∙ ap row (zero-add n))
+
 pub same-rows : (f g : ℕ → List ℕ) (c n : ℕ) → ((k : ℕ) → c ≤ k → k < c + n → f k ≡ g k) → rowsFrom f c n ≡ rowsFrom g c n
 unfolding rowsFrom
 same-rows f g c zero h = refl
 same-rows f g c (suc n) h = rw (h c (omega arith) (omega arith), same-rows f g (suc c) n (λ k l m. h k (omega arith) (omega arith)))
+
+-- the words from a row's start to its end, and from a place to the end of all
+pub row-part : (table : List ℕ) (c : ℕ) → take (c * 39 + 39 - c * 39) (drop (c * 39) table) ≡ rowAt table c
+row-part table c = let e : c * 39 + 39 - c * 39 ≡ 39 = omega arith in ap (λ n. take n (drop (c * 39) table)) e
+
+pub rest-part : (words : List ℕ) (n : ℕ) → take (length words - n) (drop n words) ≡ drop n words
+rest-part words n = take-all (length words - n) (drop n words) (omega (arith, length-drop n words))
 
 -- a row of the main table
 pub length-row : (table : List ℕ) (c : ℕ) → suc c * 39 ≤ length table → length (rowAt table c) ≡ 39

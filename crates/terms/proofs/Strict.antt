@@ -9,7 +9,6 @@ use lib.Dec.{eqb}
 use lib.ListN.{length, replicate}
 use borrow.Author.Tests.{not-false, eqb-true, eqb-false}
 use Rattle.refusal.specs.Number.{numberOf, answerNumberOf, onDone}
-use Rattle.refusal.specs.Long.{isLong}
 use Rattle.refusal.specs.declared.Refusal.{Refusal}
 use Rattle.refusal.specs.declared.Refusal.the-variants.{SliceLength, WordNotBelowP, RowCount, ChunkLengthZero, ZeroDenominator, UndecodableRow}
 use Rattle.refusal.specs.declared.Answer.{Answer}

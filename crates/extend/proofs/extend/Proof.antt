@@ -1,6 +1,5 @@
 -- The answer that is not strict is extension's.
 use borrow.Author.Needs.{needs}
-use mathlib.Core.Path.{_∙_}
 use Rattle.extend.specs.Extend.{extendAux, extendWork}
 use Rattle.extend.proofs.extend.Statement.{statement}
 use Rattle.extend.proofs.extend.Tie as tie

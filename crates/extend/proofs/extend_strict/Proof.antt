@@ -1,6 +1,5 @@
 -- The strict answer.
 use borrow.Author.Needs.{needs}
-use mathlib.Core.Path.{_∙_}
 use Rattle.extend_answer.specs.Strict.{strictAnswer}
 use Rattle.extend.specs.Extend.{strictAux, strictWork}
 use Rattle.extend.proofs.extend_strict.Statement.{statement}

@@ -2,16 +2,17 @@
 use borrow.Author.Needs.{needs}
 use borrow.Author.Tests.{not-true, not-false, eqb-true}
 use mathlib.Core.Path.{_≡_, refl, sym, ap, _∙_}
-use mathlib.Core.Bool.{true, false}
+use mathlib.Core.Bool.{false}
 use Prim.Native.Nat.{_-_, _*_, _%_, _≤_}
 use native.Mathlib.Omega.{arith}
 use lib.ListN.{length, drop}
 use Rattle.field_base.specs.Words.{allBelow}
 use Rattle.field_base.proofs.Below.{holds-past}
 use Rattle.isa_decoding.proofs.Unread.{unread}
+use Rattle.table_rows.proofs.Rows.{row-part, rest-part}
 use Rattle.column_entries.specs.Row.{instructionOf}
 use Rattle.extend_answer.specs.Strict.{isRead, undecodable, undecodableFrom}
-use Rattle.extend_answer.proofs.Undecodable.{row-part, rest-part, from-start, row-fails, row-decodes, row-not-below, row-below, no-row-left}
+use Rattle.extend_answer.proofs.Undecodable.{from-start, row-fails, row-decodes, row-not-below, row-below, no-row-left}
 use Rattle.extend_answer.proofs.strict_rows_answer.Statement.{statement}
 use Rattle.extend_answer.proofs.strict_rows_answer.Tie as tie
 

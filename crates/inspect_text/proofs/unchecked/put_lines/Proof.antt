@@ -1,13 +1,13 @@
 -- The lines of the rows before, at most 114 bytes each.
 use borrow.Author.Needs.{needs}
 use mathlib.Core.Path.{_≡_, refl, sym, ap, _∙_}
-use mathlib.Core.List.{List, _++_, append-nil}
+use mathlib.Core.List.{List, _++_}
 use Prim.Native.Nat.{ℕ, _+_, _-_, _*_, _/_, _≤_}
 use native.Mathlib.Nat.{zero-add}
 use native.Mathlib.Omega.{arith}
 use lib.ListN.{length, take, drop, length-take, length-drop}
 use Rattle.table_rows.specs.Rows.{rowAt, rowsFrom}
-use Rattle.table_rows.proofs.Rows.{split-rows}
+use Rattle.table_rows.proofs.Rows.{row-part, one-more-row}
 use Rattle.text.proofs.Stores.{Put, put, then, put-as}
 use Rattle.inspect_text.specs.Text.{rowText, lines}
 use Rattle.inspect_text.proofs.unchecked.put_lines.Statement.{statement}
@@ -60,10 +60,8 @@ loop-again c =
     let at-loop = c .before .before .before .before .before .before in
     let trace = at-loop .before .before .before .args .trace .now in
     let row = at-loop .loop .row in
-    let whole : row * 39 + 39 - row * 39 ≡ 39 = omega arith in
     let next = then (at-loop .loop .inv .3) (put (rowText (take (row * 39 + 39 - row * 39) (drop (row * 39) trace)) row) (called .ensures .0 .0) (called .ensures .1)) in
-    let more = split-rows (textOf trace) 0 row 1 ∙ ap (λ t. rowsFrom (textOf trace) 0 row ++ t) (append-nil (textOf trace (0 + row)) ∙ ap (textOf trace) (zero-add row)) in
-    (search needs, search needs, search needs, put-as next (ap (λ n. rowsFrom (textOf trace) 0 row ++ rowText (take n (drop (row * 39) trace)) row) whole ∙ sym more))
+    (search needs, search needs, search needs, put-as next (ap (λ words. rowsFrom (textOf trace) 0 row ++ rowText words row) (row-part trace row) ∙ sym (one-more-row (textOf trace) row)))
 
 same-length : tie.Need-same-length Inv-loop μ-loop
 same-length c = search needs

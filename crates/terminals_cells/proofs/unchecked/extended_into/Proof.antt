@@ -2,17 +2,16 @@
 use mathlib.Core.Path.{_≡_, refl, sym, ap, _∙_}
 use mathlib.Core.List.{List}
 use Prim.Native.Nat.{ℕ, _-_}
-use native.Mathlib.Omega.{arith}
-use lib.ListN.{length, take, drop, length-drop}
-use lib.Seq.{take-all}
+use lib.ListN.{length, take, drop}
 use borrow.Author.Needs.{needs}
+use Rattle.table_rows.proofs.Rows.{rest-part}
 use Rattle.terminals_cells.specs.Terminals.{lastRow}
 use Rattle.terminals_cells.proofs.unchecked.extended_into.Statement.{statement}
 use Rattle.terminals_cells.proofs.unchecked.extended_into.Tie as tie
 
 -- the part from there on is all that is left
 to-last : (aux′ aux : List ℕ) → aux′ ≡ aux → take (length aux′ - (length aux′ - 33)) (drop (length aux′ - 33) aux′) ≡ lastRow aux
-to-last aux′ aux e = take-all (length aux′ - (length aux′ - 33)) (drop (length aux′ - 33) aux′) (simp length-drop (omega arith)) ∙ ap lastRow e
+to-last aux′ aux e = rest-part aux′ (length aux′ - 33) ∙ ap lastRow e
 
 extend-requires : tie.Need-extend-requires
 extend-requires c κs = search needs

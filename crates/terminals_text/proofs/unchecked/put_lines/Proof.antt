@@ -1,13 +1,12 @@
 -- The lines of the columns before, at most 84 bytes each.
 use borrow.Author.Needs.{needs}
 use mathlib.Core.Path.{_≡_, refl, sym, ap, _∙_}
-use mathlib.Core.List.{_++_, append-nil}
-use Prim.Native.Nat.{_+_, _-_, _*_, _≤_}
+use Prim.Native.Nat.{_-_, _*_, _≤_}
 use native.Mathlib.Nat.{zero-add}
 use native.Mathlib.Omega.{arith}
 use lib.ListN.{length}
 use Rattle.table_rows.specs.Rows.{rowsFrom}
-use Rattle.table_rows.proofs.Rows.{split-rows}
+use Rattle.table_rows.proofs.Rows.{one-more-row}
 use Rattle.terminals_text.specs.Text.{line, lines}
 use Rattle.text.proofs.Stores.{Put, then, put-as}
 use Rattle.terminals_text.proofs.unchecked.put_lines.Statement.{statement}
@@ -40,8 +39,7 @@ loop-again c =
     let row = line (at-loop .before .before .args .cells .now) in
     let column = at-loop .loop .column in
     let next = then (at-loop .loop .inv .3) (record { stored = called .ensures .1; end = called .ensures .0 .0 }) in
-    let more = split-rows row 0 column 1 ∙ ap (λ t. rowsFrom row 0 column ++ t) (append-nil (row (0 + column)) ∙ ap row (zero-add column)) in
-    (search needs, search needs, search needs, put-as next (sym more))
+    (search needs, search needs, search needs, put-as next (sym (one-more-row row column)))
 
 same-length : tie.Need-same-length Inv-loop μ-loop
 same-length c = search needs
