@@ -10,7 +10,8 @@
  * No function allocates, keeps a pointer or has state. Calls may run at the same time unless one writes what another reads or
  * writes.
  *
- * A base element is a word below p. An element is three words, the coefficient of X^0 first, modulo X^3 - X + 1.
+ * A base element is a word below p. An element is three words, the coefficient of X^0 first, modulo X^3 - X + 1. Words are plain
+ * unless a comment says that they are in Montgomery form, in which the base element v is the word v * 2^64 modulo p.
  */
 #ifndef TEALBOBBIN_H
 #define TEALBOBBIN_H
@@ -24,9 +25,9 @@ extern "C" {
 
 /* The Rust crate's Cargo.toml has the same version. */
 #define TEALBOBBIN_VERSION_MAJOR 0
-#define TEALBOBBIN_VERSION_MINOR 3
+#define TEALBOBBIN_VERSION_MINOR 4
 #define TEALBOBBIN_VERSION_PATCH 0
-#define TEALBOBBIN_VERSION "0.3.0"
+#define TEALBOBBIN_VERSION "0.4.0"
 
 enum tealbobbin_refusal {
     TEALBOBBIN_DONE = 0,                  /* none */
@@ -46,6 +47,9 @@ enum tealbobbin_refusal {
 
 /* p = 2^64 - 2^32 + 1 */
 #define TEALBOBBIN_P UINT64_C(18446744069414584321)
+
+/* 1 in Montgomery form: 2^64 modulo p. */
+#define TEALBOBBIN_MONTGOMERY_ONE UINT64_C(4294967295)
 
 /* Words of an element, and of a map r -> a*r + b: a, then b. */
 #define TEALBOBBIN_ELEMENT_WORDS 3
@@ -140,6 +144,12 @@ enum tealbobbin_aux_column {
 /* The bytes of a batch with this many trace rows, and this many differences, input and output words together. */
 #define TEALBOBBIN_BATCH_BYTES(rows, words) (1464 + 313 * (size_t)(rows) + 9 * (size_t)(words))
 
+/* The form of the words in a batch's trace rows. */
+enum tealbobbin_form {
+    TEALBOBBIN_FORM_PLAIN = 0,     /* command 02 */
+    TEALBOBBIN_FORM_MONTGOMERY = 1 /* command 0A */
+};
+
 /* Where each number stands in the counts of an opened batch, and how many there are. */
 enum tealbobbin_count {
     TEALBOBBIN_COUNT_ROWS = 0,
@@ -169,6 +179,34 @@ uint32_t tealbobbin_base_mul(uint64_t a, uint64_t b, uint64_t *out, size_t out_c
  * 6: a is 0.
  */
 uint32_t tealbobbin_base_inverse(uint64_t a, uint64_t *out, size_t out_count);
+
+/*
+ * A plain word into Montgomery form, a * 2^64 modulo p, and a word in the form back to the plain one, a / 2^64 modulo p, into
+ * `out`, 1 word.
+ *
+ * 1: `out` has another length.
+ * 2: a is not below p.
+ */
+uint32_t tealbobbin_to_montgomery(uint64_t a, uint64_t *out, size_t out_count);
+uint32_t tealbobbin_from_montgomery(uint64_t a, uint64_t *out, size_t out_count);
+
+/*
+ * The sum and the product of words in Montgomery form, in the form, into `out`, 1 word.
+ *
+ * 1: `out` has another length.
+ * 2: a or b is not below p.
+ */
+uint32_t tealbobbin_montgomery_add(uint64_t a, uint64_t b, uint64_t *out, size_t out_count);
+uint32_t tealbobbin_montgomery_mul(uint64_t a, uint64_t b, uint64_t *out, size_t out_count);
+
+/*
+ * The inverse of a word in Montgomery form, in the form: its product with a is TEALBOBBIN_MONTGOMERY_ONE. Into `out`, 1 word.
+ *
+ * 1: `out` has another length.
+ * 2: a is not below p.
+ * 6: a is 0.
+ */
+uint32_t tealbobbin_montgomery_inverse(uint64_t a, uint64_t *out, size_t out_count);
 
 /*
  * Elements: a + b, a - b, a * b, into `out`. Each slice is an element, 3 words.
@@ -295,16 +333,18 @@ uint32_t tealbobbin_extend_strict(const uint64_t *main, size_t main_count, const
  * Opens a batch of at most 16384 bytes; docs/BATCH.md has the format. Into the slices go, from their start on, `trace` (1248
  * words): its rows; `op_stack`, `ram`, `jump_stack` (128 each): the clock jump differences; `sampled` (177) and `digest` (5), as
  * tealbobbin_challenges takes them; `input` and `output` (64 each); `counts` (6): how many of each, by enum tealbobbin_count.
- * Words past the counts stay. Batches that open to equal contents have equal bytes.
+ * Words past the counts stay. All words are plain, also where the batch has its rows in Montgomery form. Batches with rows of one
+ * form that open to equal contents have equal bytes.
  *
  * 1: `batch` has more bytes, or another slice has another length.
  * Then for each command, from left to right:
  * 7: the byte is no command.
  * 8: the batch ends inside the operand; also, where a command should stand, without an end command.
- * 9: the command is out of place or too often; at the end command, rows, challenges or digest are missing or bytes follow.
+ * 9: the command is out of place or too often, or a row of another form than the rows before it; at the end command, rows,
+ *    challenges or digest are missing or bytes follow.
  * 10: the command belongs in front of one before it, or its difference is below the one before it in the same list.
  * 3: the number of rows is 0 or above 32.
- * 2: a word of the operand is not below p.
+ * 2: a word of the operand, as it is sent, is not below p.
  */
 uint32_t tealbobbin_open(const uint8_t *batch, size_t batch_count, uint64_t *trace, size_t trace_count,
                          uint64_t *op_stack, size_t op_stack_count, uint64_t *ram, size_t ram_count,
@@ -313,10 +353,11 @@ uint32_t tealbobbin_open(const uint8_t *batch, size_t batch_count, uint64_t *tra
                          uint64_t *output, size_t output_count, uint64_t *counts, size_t counts_count);
 
 /*
- * Writes the one batch with these contents into `batch`: `trace`, 1 to 32 rows of 39 words; `op_stack`, `ram`, `jump_stack`, the
- * clock jump differences in any order, which it sorts; `sampled` and `digest`, as tealbobbin_challenges takes them; `input` and
- * `output` in their order. Each slice is as long as what it brings, and the lists, `input` and `output` may be empty. A difference
- * need not be below the number of rows.
+ * Writes the one batch with these contents and rows of this form into `batch`: `trace`, 1 to 32 rows of 39 words; `op_stack`,
+ * `ram`, `jump_stack`, the clock jump differences in any order, which it sorts; `sampled` and `digest`, as tealbobbin_challenges
+ * takes them; `input` and `output` in their order. Each slice is as long as what it brings, and the lists, `input` and `output` may
+ * be empty. A difference need not be below the number of rows. All words are plain; unless `form` is TEALBOBBIN_FORM_PLAIN, those
+ * of the rows are written in Montgomery form.
  *
  * 1: `trace` is not whole rows, a list has more than 128 words, `input` or `output` more than 64, `sampled` not 177 or `digest` not
  *    5, or `batch` not TEALBOBBIN_BATCH_BYTES bytes, with the rows of `trace` and the words of the lists, `input` and `output`.
@@ -327,7 +368,7 @@ uint32_t tealbobbin_write(const uint64_t *trace, size_t trace_count, const uint6
                           const uint64_t *ram, size_t ram_count, const uint64_t *jump_stack, size_t jump_stack_count,
                           const uint64_t *sampled, size_t sampled_count, const uint64_t *digest, size_t digest_count,
                           const uint64_t *input, size_t input_count, const uint64_t *output, size_t output_count,
-                          uint8_t *batch, size_t batch_count);
+                          uint64_t form, uint8_t *batch, size_t batch_count);
 
 #ifdef __cplusplus
 }

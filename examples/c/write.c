@@ -24,7 +24,7 @@ int main(void)
     for (size_t i = 0; i < COUNT(sampled); i += TEALBOBBIN_ELEMENT_WORDS)
         sampled[i] = 2;
     uint32_t refusal = tealbobbin_write(trace, COUNT(trace), NULL, 0, NULL, 0, NULL, 0, sampled, COUNT(sampled),
-                                        digest, COUNT(digest), NULL, 0, NULL, 0, batch, sizeof(batch));
+                                        digest, COUNT(digest), NULL, 0, NULL, 0, TEALBOBBIN_FORM_PLAIN, batch, sizeof(batch));
     if (refusal) {
         fprintf(stderr, "refused %" PRIu32 "\n", refusal);
         return 3;

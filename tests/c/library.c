@@ -17,6 +17,29 @@ static const size_t chunks[] = {1, 2, 3, 4, 1000, SIZE_MAX};
 
 #define HALF UINT64_C(9223372034707292161)
 
+static uint64_t plus(uint64_t a, uint64_t b)
+{
+    return a >= P - b ? a - (P - b) : a + b;
+}
+
+static void of_a_word(uint32_t (*call)(uint64_t, uint64_t *, size_t))
+{
+    uint64_t *out = lend(2);
+    REFUSED(1, call(2, out, 0));
+    REFUSED(1, call(2, NULL, 0));
+    REFUSED(1, call(P, out, 2));
+    REFUSED(2, call(P, out, 1));
+    REFUSED(2, call(UINT64_MAX, out, 1));
+}
+
+static void of_an_inverse(uint32_t (*call)(uint64_t, uint64_t *, size_t))
+{
+    uint64_t *out = lend(2);
+    of_a_word(call);
+    REFUSED(1, call(0, out, 2));
+    REFUSED(6, call(0, out, 1));
+}
+
 static void of_two_words(uint32_t (*call)(uint64_t, uint64_t, uint64_t *, size_t))
 {
     uint64_t *out = lend(2);
@@ -65,11 +88,86 @@ static void base_inverse(void)
     HOLDS(out, HALF);
     DONE(tealbobbin_base_inverse(P - 1, out, 1));
     HOLDS(out, P - 1);
-    REFUSED(1, tealbobbin_base_inverse(2, out, 0));
-    REFUSED(1, tealbobbin_base_inverse(P, out, 2));
-    REFUSED(1, tealbobbin_base_inverse(0, out, 2));
-    REFUSED(2, tealbobbin_base_inverse(P, out, 1));
-    REFUSED(6, tealbobbin_base_inverse(0, out, 1));
+    of_an_inverse(tealbobbin_base_inverse);
+}
+
+/* Montgomery form. */
+
+#define ONE TEALBOBBIN_MONTGOMERY_ONE
+
+/* v * 2^64 modulo p, by doubling. */
+static uint64_t in_form(uint64_t v)
+{
+    for (int i = 0; i < 64; i++)
+        v = plus(v, v);
+    return v;
+}
+
+static const uint64_t plain_words[] = {0, 1, 2, 88, ONE - 1, ONE, ONE + 1, HALF - 1, HALF, P - ONE, P - 2, P - 1};
+
+static void to_montgomery(void)
+{
+    uint64_t *out = lend(2);
+    DONE(tealbobbin_to_montgomery(1, out, 1));
+    HOLDS(out, ONE);
+    for (size_t i = 0; i < COUNT(plain_words); i++) {
+        DONE(tealbobbin_to_montgomery(plain_words[i], out, 1));
+        HOLDS(out, in_form(plain_words[i]));
+    }
+    of_a_word(tealbobbin_to_montgomery);
+}
+
+static void from_montgomery(void)
+{
+    uint64_t *out = lend(2);
+    DONE(tealbobbin_from_montgomery(ONE, out, 1));
+    HOLDS(out, 1);
+    for (size_t i = 0; i < COUNT(plain_words); i++) {
+        DONE(tealbobbin_from_montgomery(in_form(plain_words[i]), out, 1));
+        HOLDS(out, plain_words[i]);
+    }
+    of_a_word(tealbobbin_from_montgomery);
+}
+
+static void montgomery_add(void)
+{
+    uint64_t *out = lend(2);
+    DONE(tealbobbin_montgomery_add(in_form(3), in_form(4), out, 1));
+    HOLDS(out, in_form(7));
+    DONE(tealbobbin_montgomery_add(P - 1, P - 1, out, 1));
+    HOLDS(out, P - 2);
+    of_two_words(tealbobbin_montgomery_add);
+}
+
+/* 2^96 is -1 modulo p, so that 1 / 2^64 is 2^128, which is p - 2^32. */
+static void montgomery_mul(void)
+{
+    uint64_t *out = lend(2);
+    DONE(tealbobbin_montgomery_mul(in_form(3), in_form(4), out, 1));
+    HOLDS(out, in_form(12));
+    DONE(tealbobbin_montgomery_mul(in_form(P - 1), in_form(P - 3), out, 1));
+    HOLDS(out, in_form(3));
+    DONE(tealbobbin_montgomery_mul(P - 1, P - 1, out, 1));
+    HOLDS(out, P - (UINT64_C(1) << 32));
+    for (size_t i = 0; i < COUNT(plain_words); i++) {
+        DONE(tealbobbin_montgomery_mul(ONE, plain_words[i], out, 1));
+        HOLDS(out, plain_words[i]);
+        DONE(tealbobbin_montgomery_mul(in_form(plain_words[i]), 1, out, 1));
+        HOLDS(out, plain_words[i]);
+    }
+    of_two_words(tealbobbin_montgomery_mul);
+}
+
+static void montgomery_inverse(void)
+{
+    uint64_t *out = lend(2);
+    DONE(tealbobbin_montgomery_inverse(in_form(2), out, 1));
+    HOLDS(out, in_form(HALF));
+    DONE(tealbobbin_montgomery_inverse(ONE, out, 1));
+    HOLDS(out, ONE);
+    DONE(tealbobbin_montgomery_inverse(P - 1, out, 1));
+    HOLDS(out, UINT64_C(1) << 32);
+    of_an_inverse(tealbobbin_montgomery_inverse);
 }
 
 /* Elements. X * X^2 is X - 1. */
@@ -199,11 +297,6 @@ static void decode(void)
 }
 
 /* Challenges: number k is k + 2, so that 0, 1, 2 and 54, of digest, input, output and byte table, are 2, 3, 4 and 56. */
-
-static uint64_t plus(uint64_t a, uint64_t b)
-{
-    return a >= P - b ? a - (P - b) : a + b;
-}
 
 /* factor * value + symbol modulo p. */
 static uint64_t absorbed(unsigned factor, uint64_t value, uint64_t symbol)
@@ -598,7 +691,12 @@ static void extend_strict(void)
 
 /* Batches. */
 
-enum { END, ROWS_TO_COME, TRACE_ROW, OP_STACK, RAM, JUMP_STACK, SAMPLED, DIGEST, INPUT, OUTPUT, UNKNOWN };
+enum { END, ROWS_TO_COME, PLAIN_ROW, OP_STACK, RAM, JUMP_STACK, SAMPLED, DIGEST, INPUT, OUTPUT, MONTGOMERY_ROW, UNKNOWN };
+
+/* The form of rows that are put and written, and the command of a row in it, and of one in the other. */
+static uint64_t form;
+#define TRACE_ROW (form ? MONTGOMERY_ROW : PLAIN_ROW)
+#define OTHER_ROW (form ? PLAIN_ROW : MONTGOMERY_ROW)
 
 static uint8_t bytes[TEALBOBBIN_BATCH_MAX_BYTES + 1];
 static size_t byte_count;
@@ -623,14 +721,28 @@ static void put_rows_to_come(uint32_t rows)
     put(rows, 4);
 }
 
+/* A trace row whose words, once opened, count up from the first. */
+static void put_row(uint64_t first)
+{
+    put(TRACE_ROW, 1);
+    for (size_t i = 0; i < ROW; i++)
+        put(form ? in_form(first + i) : first + i, 8);
+}
+
 /* The commands between the first and the end, in their order, each with the words of its operand. */
 static const struct {
     uint8_t command;
     size_t words;
 } order[] = {
     {DIGEST, TEALBOBBIN_DIGEST_WORDS}, {INPUT, 1},    {OUTPUT, 1}, {SAMPLED, TEALBOBBIN_SAMPLED_WORDS},
-    {TRACE_ROW, ROW},                  {OP_STACK, 1}, {RAM, 1},    {JUMP_STACK, 1},
+    {PLAIN_ROW, ROW},                  {OP_STACK, 1}, {RAM, 1},    {JUMP_STACK, 1},
 };
+
+/* With this word as the first of its operand, and a row in the form. */
+static void put_in_order(size_t i, uint64_t first)
+{
+    put_command(order[i].command == PLAIN_ROW ? TRACE_ROW : order[i].command, order[i].words, first);
+}
 
 /* What a batch of one row needs, up to where this command belongs. */
 static void begin_for(uint8_t command)
@@ -641,7 +753,7 @@ static void begin_for(uint8_t command)
     if (command == INPUT || command == OUTPUT)
         return;
     put_command(SAMPLED, TEALBOBBIN_SAMPLED_WORDS, 2000);
-    put_command(TRACE_ROW, ROW, 100);
+    put_row(100);
 }
 
 /* A batch of one row that lacks only its end. */
@@ -733,8 +845,8 @@ static void open_every_command(void)
         put_command(INPUT, 1, 400 + i);
     put_command(OUTPUT, 1, 500);
     put_command(SAMPLED, TEALBOBBIN_SAMPLED_WORDS, 2001);
-    put_command(TRACE_ROW, ROW, 100);
-    put_command(TRACE_ROW, ROW, 100 + ROW);
+    put_row(100);
+    put_row(100 + ROW);
     put_command(OP_STACK, 1, P - 1);
     for (uint64_t i = 0; i < 3; i++)
         put_command(RAM, 1, 10 + i);
@@ -769,7 +881,7 @@ static void open_orders(void)
         put_command(lists[l].command, 1, last);
         if (!is_difference(lists[l].command)) {
             put_command(SAMPLED, TEALBOBBIN_SAMPLED_WORDS, 2000);
-            put_command(TRACE_ROW, ROW, 100);
+            put_row(100);
         }
         put_command(END, 0, 0);
         DONE(open_bytes());
@@ -793,7 +905,7 @@ static void put_largest(void)
         put_list(l);
     put_command(SAMPLED, TEALBOBBIN_SAMPLED_WORDS, 2002);
     for (size_t r = 0; r < TEALBOBBIN_BATCH_MAX_ROWS; r++)
-        put_command(TRACE_ROW, ROW, 3000 + r * ROW);
+        put_row(3000 + r * ROW);
     for (size_t l = 0; l < COUNT(lists); l++)
         if (is_difference(lists[l].command))
             put_list(l);
@@ -909,6 +1021,31 @@ static void open_refuses_9(void)
     REFUSED(9, open_bytes());
 }
 
+/* A row of the other form behind each number of rows, with words not below p, and behind a difference: before 10 and 2. */
+static void open_refuses_mixtures(void)
+{
+    for (size_t rows = 1; rows < TEALBOBBIN_BATCH_MAX_ROWS; rows++)
+        for (int late = 0; late < 2; late++) {
+            byte_count = 0;
+            put_rows_to_come(TEALBOBBIN_BATCH_MAX_ROWS);
+            for (size_t r = 0; r < rows; r++)
+                put_row(0);
+            if (late)
+                put_command(OP_STACK, 1, 0);
+            size_t before = byte_count;
+            put_command(OTHER_ROW, ROW, 0);
+            REFUSED(9, open_bytes());
+            byte_count--;
+            REFUSED(8, open_bytes());
+            byte_count = before;
+            put_command(OTHER_ROW, ROW, P);
+            REFUSED(9, open_bytes());
+            byte_count = before;
+            put_command(TRACE_ROW, ROW, P);
+            REFUSED(late ? 10 : 2, open_bytes());
+        }
+}
+
 /* Before 2: each command behind each that belongs after it, and differences that descend. */
 static void open_refuses_10(void)
 {
@@ -916,8 +1053,8 @@ static void open_refuses_10(void)
         for (size_t before = late + 1; before < COUNT(order); before++) {
             byte_count = 0;
             put_rows_to_come(1);
-            put_command(order[before].command, order[before].words, 7);
-            put_command(order[late].command, order[late].words, P);
+            put_in_order(before, 7);
+            put_in_order(late, P);
             REFUSED(10, open_bytes());
             byte_count--;
             REFUSED(8, open_bytes());
@@ -950,7 +1087,12 @@ static void open_refuses_2(void)
     static const struct {
         uint8_t command;
         size_t words;
-    } operands[] = {{DIGEST, TEALBOBBIN_DIGEST_WORDS}, {SAMPLED, TEALBOBBIN_SAMPLED_WORDS}, {TRACE_ROW, ROW}};
+    } operands[] = {
+        {DIGEST, TEALBOBBIN_DIGEST_WORDS},
+        {SAMPLED, TEALBOBBIN_SAMPLED_WORDS},
+        {PLAIN_ROW, ROW},
+        {MONTGOMERY_ROW, ROW},
+    };
     for (size_t i = 0; i < COUNT(operands); i++) {
         byte_count = 0;
         put_rows_to_come(1);
@@ -966,20 +1108,60 @@ static void open_refuses_2(void)
     }
 }
 
+/* Each example with plain rows, and with rows in Montgomery form. */
+static const char *const examples[][2] = {
+    {"examples/document-01.batch", "examples/document-01-montgomery.batch"},
+    {"examples/undecodable.batch", "examples/undecodable-montgomery.batch"},
+};
+
+static void read_example(size_t example)
+{
+    const char *name = examples[example][form ? 1 : 0];
+    FILE *file = fopen(name, "rb");
+    byte_count = file ? fread(bytes, 1, sizeof(bytes), file) : 0;
+    if (!byte_count) {
+        printf("%s: ", name);
+        give_up("it cannot be read");
+    }
+    fclose(file);
+}
+
+/* Both open to the same. */
+static void open_examples(void)
+{
+    static uint64_t plain[LENT][TEALBOBBIN_BATCH_MAX_TRACE_WORDS + 1];
+    for (size_t e = 0; e < COUNT(examples); e++)
+        for (form = 0; form < 2; form++) {
+            read_example(e);
+            for (size_t s = 0; s < LENT; s++)
+                make_stale(lent[s].words, lengths[s] + 1);
+            DONE(open_bytes());
+            for (size_t s = 0; s < LENT; s++) {
+                if (!form)
+                    copy(plain[s], lent[s].words, lengths[s] + 1);
+                HOLDS_WORDS(lent[s].words, plain[s], lengths[s] + 1);
+            }
+        }
+}
+
 static void open(void)
 {
     lend_all();
-    open_one_row();
-    open_every_command();
-    open_orders();
-    open_largest();
-    open_refuses_1();
-    open_refuses_7();
-    open_refuses_8();
-    open_refuses_9();
-    open_refuses_10();
-    open_refuses_3();
-    open_refuses_2();
+    for (form = 0; form < 2; form++) {
+        open_one_row();
+        open_every_command();
+        open_orders();
+        open_largest();
+        open_refuses_1();
+        open_refuses_7();
+        open_refuses_8();
+        open_refuses_9();
+        open_refuses_mixtures();
+        open_refuses_10();
+        open_refuses_3();
+        open_refuses_2();
+    }
+    open_examples();
 }
 
 /* The slice that is written, with room for a batch of 33 rows and words behind it; the slices that are lent hold the contents. */
@@ -990,7 +1172,7 @@ static uint32_t write_lent(size_t count)
 {
     return tealbobbin_write(lent[0].words, lent[0].count, lent[1].words, lent[1].count, lent[2].words, lent[2].count,
                             lent[3].words, lent[3].count, lent[4].words, lent[4].count, lent[5].words, lent[5].count,
-                            lent[6].words, lent[6].count, lent[7].words, lent[7].count, (uint8_t *)written, count);
+                            lent[6].words, lent[6].count, lent[7].words, lent[7].count, form, (uint8_t *)written, count);
 }
 
 /* The bytes that the batch of what is lent would have. */
@@ -1039,11 +1221,7 @@ static void bring_rows(size_t rows)
 
 static void write_example(void)
 {
-    FILE *file = fopen("examples/document-01.batch", "rb");
-    byte_count = file ? fread(bytes, 1, sizeof(bytes), file) : 0;
-    if (!byte_count)
-        give_up("examples/document-01.batch cannot be read");
-    fclose(file);
+    read_example(0);
     bring_rows(1);
     memset(lent[L_TRACE].words, 0, ROW * sizeof(uint64_t));
     memset(lent[L_DIGEST].words, 0, TEALBOBBIN_DIGEST_WORDS * sizeof(uint64_t));
@@ -1051,7 +1229,7 @@ static void write_example(void)
         lent[L_SAMPLED].words[i] = i % ELEMENT ? 0 : 2;
     WRITES();
     DONE(tealbobbin_write(lent[L_TRACE].words, ROW, NULL, 0, NULL, 0, NULL, 0, lent[L_SAMPLED].words, TEALBOBBIN_SAMPLED_WORDS,
-                          lent[L_DIGEST].words, TEALBOBBIN_DIGEST_WORDS, NULL, 0, NULL, 0, (uint8_t *)written, byte_count));
+                          lent[L_DIGEST].words, TEALBOBBIN_DIGEST_WORDS, NULL, 0, NULL, 0, form, (uint8_t *)written, byte_count));
     TRUE(memcmp(written, bytes, byte_count) == 0);
 }
 
@@ -1077,8 +1255,8 @@ static void write_every_command(void)
     put_command(OUTPUT, 1, 4);
     put_command(OUTPUT, 1, 42);
     put_command(SAMPLED, TEALBOBBIN_SAMPLED_WORDS, 2000);
-    put_command(TRACE_ROW, ROW, 100);
-    put_command(TRACE_ROW, ROW, 100 + ROW);
+    put_row(100);
+    put_row(100 + ROW);
     put_command(OP_STACK, 1, P - 1);
     put_command(RAM, 1, 255);
     put_command(RAM, 1, 255);
@@ -1159,7 +1337,7 @@ static void write_refuses_3(void)
     uint8_t *many = (uint8_t *)lend_many(length / sizeof(uint64_t) + 1);
     REFUSED(3, tealbobbin_write(lend_many(rows * ROW), rows * ROW, NULL, 0, NULL, 0, NULL, 0, lent[L_SAMPLED].words,
                                 TEALBOBBIN_SAMPLED_WORDS, lent[L_DIGEST].words, TEALBOBBIN_DIGEST_WORDS, NULL, 0, NULL, 0,
-                                many, length));
+                                form, many, length));
 }
 
 /* Each word of each slice. */
@@ -1179,20 +1357,26 @@ static void write_refuses_2(void)
 
 static void write(void)
 {
-    for (size_t s = 0; s < L_COUNTS; s++)
-        lent[s].words = lend(lengths[s] + ROW);
-    written = lend(WRITTEN);
-    write_example();
-    write_every_command();
-    write_refuses_1(0);
-    write_refuses_1(1);
-    write_refuses_1(TEALBOBBIN_BATCH_MAX_ROWS + 1);
-    write_refuses_3();
-    write_refuses_2();
-    give_back();
-    lend_all();
-    written = lend(WRITTEN);
-    write_largest();
+    /* whatever is not 0 is Montgomery form, also where its low bytes are 0 */
+    static const uint64_t forms[] = {TEALBOBBIN_FORM_PLAIN, TEALBOBBIN_FORM_MONTGOMERY, 2, 256, UINT64_C(1) << 32, UINT64_MAX};
+    for (size_t f = 0; f < COUNT(forms); f++) {
+        form = forms[f];
+        for (size_t s = 0; s < L_COUNTS; s++)
+            lent[s].words = lend(lengths[s] + ROW);
+        written = lend(WRITTEN);
+        write_example();
+        write_every_command();
+        write_refuses_1(0);
+        write_refuses_1(1);
+        write_refuses_1(TEALBOBBIN_BATCH_MAX_ROWS + 1);
+        write_refuses_3();
+        write_refuses_2();
+        give_back();
+        lend_all();
+        written = lend(WRITTEN);
+        write_largest();
+        give_back();
+    }
 }
 
 static void constants(void)
@@ -1201,6 +1385,7 @@ static void constants(void)
     snprintf(version, sizeof(version), "%d.%d.%d", TEALBOBBIN_VERSION_MAJOR, TEALBOBBIN_VERSION_MINOR, TEALBOBBIN_VERSION_PATCH);
     TRUE(strcmp(version, TEALBOBBIN_VERSION) == 0);
     TRUE(P == UINT64_MAX - UINT32_MAX + 1);
+    TRUE(ONE == in_form(1));
     TRUE(MAP == 2 * ELEMENT);
     TRUE(TEALBOBBIN_RECORD_WORDS == TEALBOBBIN_CHALLENGE_COUNT * ELEMENT);
     TRUE(TEALBOBBIN_SAMPLED_WORDS == TEALBOBBIN_SAMPLE_COUNT * ELEMENT);
@@ -1219,6 +1404,12 @@ static const struct {
     {"base_sub", base_sub, {TEALBOBBIN_SLICE_LENGTH, TEALBOBBIN_WORD_NOT_BELOW_P}},
     {"base_mul", base_mul, {TEALBOBBIN_SLICE_LENGTH, TEALBOBBIN_WORD_NOT_BELOW_P}},
     {"base_inverse", base_inverse, {TEALBOBBIN_SLICE_LENGTH, TEALBOBBIN_WORD_NOT_BELOW_P, TEALBOBBIN_ZERO_DENOMINATOR}},
+    {"to_montgomery", to_montgomery, {TEALBOBBIN_SLICE_LENGTH, TEALBOBBIN_WORD_NOT_BELOW_P}},
+    {"from_montgomery", from_montgomery, {TEALBOBBIN_SLICE_LENGTH, TEALBOBBIN_WORD_NOT_BELOW_P}},
+    {"montgomery_add", montgomery_add, {TEALBOBBIN_SLICE_LENGTH, TEALBOBBIN_WORD_NOT_BELOW_P}},
+    {"montgomery_mul", montgomery_mul, {TEALBOBBIN_SLICE_LENGTH, TEALBOBBIN_WORD_NOT_BELOW_P}},
+    {"montgomery_inverse", montgomery_inverse,
+     {TEALBOBBIN_SLICE_LENGTH, TEALBOBBIN_WORD_NOT_BELOW_P, TEALBOBBIN_ZERO_DENOMINATOR}},
     {"element_add", element_add, {TEALBOBBIN_SLICE_LENGTH, TEALBOBBIN_WORD_NOT_BELOW_P}},
     {"element_sub", element_sub, {TEALBOBBIN_SLICE_LENGTH, TEALBOBBIN_WORD_NOT_BELOW_P}},
     {"element_mul", element_mul, {TEALBOBBIN_SLICE_LENGTH, TEALBOBBIN_WORD_NOT_BELOW_P}},

@@ -1,9 +1,10 @@
 //! Batches with any commands in any order.
 
+use tealbobbin::batch::Form;
 use tealbobbin::challenges::{Digest, SampledChallenges};
 use tealbobbin::processor::MAIN_WIDTH;
 
-use crate::plain::batch::ORDER;
+use crate::plain::batch::{rank, row_command};
 
 /// A batch in the making: its commands in the order in which they were added, any of them any number of times. Nothing is checked.
 #[derive(Debug, Clone, Default, PartialEq, Eq)]
@@ -33,7 +34,12 @@ impl Builder {
 
     /// The trace's next row.
     pub fn row(&mut self, row: &[u64; MAIN_WIDTH]) -> &mut Builder {
-        self.command(2, row)
+        self.row_as_sent(Form::Plain, row)
+    }
+
+    /// The trace's next row, from words that are in this form.
+    pub fn row_as_sent(&mut self, form: Form, row: &[u64; MAIN_WIDTH]) -> &mut Builder {
+        self.command(row_command(form), row)
     }
 
     /// A difference of the op-stack table.
@@ -83,7 +89,7 @@ impl Builder {
                 [3..=5, ref word @ ..] => word.try_into().map_or(0, u64::from_le_bytes),
                 _ => 0,
             };
-            (ORDER.iter().position(|other| command.first() == Some(other)), difference)
+            (rank(command), difference)
         });
         self
     }

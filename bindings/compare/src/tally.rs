@@ -55,6 +55,16 @@ impl Tally {
         }
     }
 
+    /// As `check` where one word is written, for many calls in a short time.
+    #[inline]
+    pub fn check_word(&mut self, what: &str, input: &[u64], got: (u32, u64), word: u64) {
+        self.compared += 1;
+        self.answered[0] += 1;
+        if got != (0, word) {
+            self.differ(format!("{what} {input:?}: got {} {}, expected 0 {word}", got.0, got.1));
+        }
+    }
+
     pub fn differ(&mut self, what: String) {
         self.different += 1;
         if self.different <= 20 {

@@ -2,9 +2,9 @@
 
 use compare::builder::Builder;
 use compare::plain;
-use compare::plain::batch::ORDER;
+use compare::plain::batch::{other, FORMS, UNKNOWN};
 use tealbobbin::abi;
-use tealbobbin::batch::{Batch, MAX_BYTES};
+use tealbobbin::batch::{Batch, Form, MAX_BYTES};
 use tealbobbin::challenges::{Claim, SampledChallenges};
 use tealbobbin::field::{Element, P};
 use tealbobbin::processor::{ClkJumpDiffs, MainRow};
@@ -14,16 +14,21 @@ use tealbobbin::Refusal;
 fn answers(batch: &Builder, number: u32) {
     let bytes = batch.bytes();
     assert_eq!(Batch::open(&bytes).err().map_or(0, Refusal::number), number);
-    assert_eq!(plain::batch::read(&bytes).err().unwrap_or(0), number);
+    assert_eq!(plain::batch::read(&bytes).1.err().unwrap_or(0), number);
 }
 
 fn new() -> Builder {
     Builder::default()
 }
 
+/// What stands before the rows.
+fn head(rows: u32) -> Builder {
+    new().rows(rows).digest(&[0; 5]).sampled(&[2; 177]).clone()
+}
+
 /// One row, digest and challenges; the end is still to come.
 fn run() -> Builder {
-    new().rows(1).digest(&[0; 5]).sampled(&[2; 177]).row(&[0; 39]).clone()
+    head(1).row(&[0; 39]).clone()
 }
 
 /// One of every command but the end.
@@ -38,8 +43,10 @@ fn first_commands() {
     answers(new().raw(&[2; 312]), 8);
     answers(new().row(&[0; 39]), 9);
     answers(new().row(&[P; 39]), 9);
-    answers(new().raw(&[10]), 7);
+    answers(new().raw(&[UNKNOWN]), 7);
     answers(new().raw(&[255]), 7);
+    answers(new().row_as_sent(Form::Montgomery, &[0; 39]), 9);
+    answers(new().raw(&[10; 312]), 8);
     answers(new().rows(1), 8);
     answers(new().raw(&[1, 1, 0, 0]), 8);
     answers(new().raw(&[1, 0, 0, 0]), 8);
@@ -55,7 +62,7 @@ fn rows_announced() {
     answers(run().rows(0), 9);
     answers(run().raw(&[1, 0, 0, 0]), 8);
     answers(run().row(&[0; 39]), 9);
-    answers(new().rows(2).digest(&[0; 5]).sampled(&[2; 177]).row(&[0; 39]).end(), 9);
+    answers(head(2).row(&[0; 39]).end(), 9);
 }
 
 /// Also behind commands that belong after it.
@@ -84,7 +91,7 @@ fn past_a_count() {
 #[test]
 fn commands_out_of_order() {
     let batch = one_of_each();
-    assert_eq!(batch.clone().end().commands.iter().map(|command| command[0]).collect::<Vec<u8>>(), ORDER);
+    assert_eq!(batch.clone().end().commands.iter().map(|command| command[0]).collect::<Vec<u8>>(), [1, 7, 8, 9, 6, 2, 3, 4, 5, 0]);
     answers(batch.clone().end(), 0);
     for from in 1..batch.commands.len() {
         for to in from + 1..batch.commands.len() {
@@ -132,9 +139,48 @@ fn words_not_below_p() {
         let one = |word: u64| run().command(command, &[word]).end().ordered().clone();
         answers(&one(P - 1), 0);
         answers(&one(P), 2);
-        answers(one(P).raw(&[10]), 2);
-        answers(new().rows(1).raw(&[10]).command(command, &[P]), 7);
+        answers(one(P).raw(&[UNKNOWN]), 2);
+        answers(new().rows(1).raw(&[UNKNOWN]).command(command, &[P]), 7);
     }
+    for form in FORMS {
+        for word in 0..39 {
+            let mut row = [P - 1; 39];
+            answers(head(1).row_as_sent(form, &row).end(), 0);
+            row[word] = P;
+            answers(head(1).row_as_sent(form, &row).end(), 2);
+        }
+    }
+}
+
+/// A row of the other form, before 10 and 2 and after 8.
+#[test]
+fn mixtures() {
+    for form in FORMS {
+        let zeros = [0; 39];
+        let one = head(3).row_as_sent(form, &zeros).clone();
+        let two = one.clone().row_as_sent(form, &zeros).clone();
+        for before in [&one, &two] {
+            answers(before.clone().row_as_sent(other(form), &zeros), 9);
+            answers(before.clone().row_as_sent(other(form), &[P; 39]), 9);
+            answers(before.clone().row_as_sent(form, &[P; 39]), 2);
+            answers(before.clone().op_stack(0).row_as_sent(other(form), &zeros), 9);
+            answers(before.clone().op_stack(0).row_as_sent(form, &[P; 39]), 10);
+            answers(before.clone().raw(&[if form == Form::Plain { 10 } else { 2 }; 312]), 8);
+        }
+        answers(two.clone().row_as_sent(form, &zeros).end(), 0);
+        answers(two.clone().row_as_sent(other(form), &zeros).end(), 9);
+    }
+}
+
+/// 0, 1 and p - 1 in the form.
+#[test]
+fn rows_in_montgomery_form() {
+    let mut row = [0; 39];
+    (row[0], row[38]) = (4294967295, 18446744065119617026);
+    let opened = Batch::open(&head(1).row_as_sent(Form::Montgomery, &row).end().bytes()).unwrap();
+    (row[0], row[38]) = (1, P - 1);
+    assert_eq!(opened.trace(), [MainRow(row)]);
+    assert_eq!(opened, Batch::open(&head(1).row(&row).end().bytes()).unwrap());
 }
 
 #[test]
@@ -182,7 +228,7 @@ fn longest() {
 #[test]
 fn heights() {
     for (rows, height) in [(1, 2), (2, 2), (3, 4), (4, 4), (5, 8), (17, 32), (32, 32)] {
-        let mut batch = new().rows(rows).digest(&[0; 5]).sampled(&[2; 177]).clone();
+        let mut batch = head(rows);
         for _ in 0..rows {
             batch.row(&[0; 39]);
         }
@@ -200,14 +246,16 @@ fn equality() {
     assert_ne!(open(run().ram(0)), open(run().op_stack(0)));
 }
 
-/// The library's answer and the plain writer's; nothing is written where it is not 0.
-fn writes(contents: [&[u64]; 8], length: usize, number: u32) -> Vec<u8> {
-    let (mut ours, mut plainly) = (vec![0xa5; length], vec![0xa5; length]);
-    assert_eq!(abi::write(contents, &mut ours), number);
-    assert_eq!(plain::batch::write(contents, &mut plainly), number);
-    assert_eq!(ours, plainly);
-    assert!(number == 0 || ours == vec![0xa5; length]);
-    ours
+/// The library's answer and the plain writer's in each form; nothing is written where it is not 0.
+fn writes(contents: [&[u64]; 8], length: usize, number: u32) -> [Vec<u8>; 2] {
+    FORMS.map(|form| {
+        let (mut ours, mut plainly) = (vec![0xa5; length], vec![0xa5; length]);
+        assert_eq!(abi::write(contents, form as u64, &mut ours), number);
+        assert_eq!(plain::batch::write(contents, form, &mut plainly), number);
+        assert_eq!(ours, plainly);
+        assert!(number == 0 || ours == vec![0xa5; length]);
+        ours
+    })
 }
 
 #[test]
@@ -215,25 +263,32 @@ fn written() {
     let (mut trace, sampled, digest) = (vec![8; 2 * 39], [6; 177], [7; 5]);
     trace[39..].fill(9);
     let contents = [&trace[..], &[5, 3, 4, 3], &[P - 1, 0], &[1], &sampled, &digest, &[2, 1], &[3, 9, 3]];
-    let mut batch = new();
-    batch.rows(2).digest(&digest).input(2).input(1).output(3).output(9).output(3).sampled(&sampled).row(&[8; 39]).row(&[9; 39]);
-    batch.op_stack(3).op_stack(3).op_stack(4).op_stack(5).ram(0).ram(P - 1).jump_stack(1);
-    let bytes = batch.end().bytes();
-    assert_eq!(writes(contents, bytes.len(), 0), bytes);
-    assert_eq!(plain::batch::length(&contents), bytes.len());
-    let opened = Batch::open(&bytes).unwrap();
-    let mut again = vec![0; opened.written_len()];
-    opened.write(&mut again).unwrap();
-    assert_eq!(again, bytes);
+    let batches = FORMS.map(|form| {
+        // 8 and 9 in the form
+        let [first, second] = if form == Form::Plain { [8, 9] } else { [34359738360, 38654705655] };
+        let mut batch = new();
+        batch.rows(2).digest(&digest).input(2).input(1).output(3).output(9).output(3).sampled(&sampled);
+        batch.row_as_sent(form, &[first; 39]).row_as_sent(form, &[second; 39]);
+        batch.op_stack(3).op_stack(3).op_stack(4).op_stack(5).ram(0).ram(P - 1).jump_stack(1);
+        batch.end().bytes()
+    });
+    let length = plain::batch::length(&contents);
+    assert_eq!(writes(contents, length, 0), batches);
 
     let mut filled = Batch::new();
     filled.set_trace(&[MainRow([8; 39]), MainRow([9; 39])]).unwrap();
     filled.set_differences(ClkJumpDiffs { op_stack: &[3, 5, 4, 3], ram: &[P - 1, 0], jump_stack: &[1] }).unwrap();
     filled.set_sampled(&SampledChallenges([Element([6; 3]); 59]));
     filled.set_claim(Claim { program_digest: digest, input: &[2, 1], output: &[3, 9, 3] }).unwrap();
-    filled.write(&mut again).unwrap();
-    assert_eq!(again, bytes);
-    assert_ne!(filled, opened);
+    for (form, bytes) in FORMS.into_iter().zip(batches) {
+        let opened = Batch::open(&bytes).unwrap();
+        assert_ne!(filled, opened);
+        for batch in [&filled, &opened] {
+            let mut again = vec![0; batch.written_len()];
+            batch.write(form, &mut again).unwrap();
+            assert_eq!(again, bytes);
+        }
+    }
 }
 
 /// What is wrong comes first in the order 1, 3, 2.

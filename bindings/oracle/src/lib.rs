@@ -124,6 +124,29 @@ impl Argument for NumberOfWords {
     const OUTSIDE: u64 = 3;
 }
 
+/// The word that the original keeps for a plain one.
+pub fn kept(word: u64) -> u64 {
+    bfe!(word).raw_u64()
+}
+
+/// The plain word for one that the original keeps.
+pub fn plain(kept: u64) -> u64 {
+    BFieldElement::from_raw_u64(kept).value()
+}
+
+/// Of words that the original keeps: the sum, the product and the inverse, as it keeps them.
+pub fn kept_sum(a: u64, b: u64) -> u64 {
+    (BFieldElement::from_raw_u64(a) + BFieldElement::from_raw_u64(b)).raw_u64()
+}
+
+pub fn kept_product(a: u64, b: u64) -> u64 {
+    (BFieldElement::from_raw_u64(a) * BFieldElement::from_raw_u64(b)).raw_u64()
+}
+
+pub fn kept_inverse(a: u64) -> Result<u64, Panicked> {
+    caught(|| BFieldElement::from_raw_u64(a).inverse().raw_u64())
+}
+
 /// All 63 challenges, from the sampled ones and the claim.
 pub fn challenges(sampled: &[u64], digest: &[u64; 5], input: &[u64], output: &[u64]) -> Result<Vec<u64>, Panicked> {
     let claim = Claimed::new(digest, input, output);
@@ -190,6 +213,12 @@ pub struct Trace(AlgebraicExecutionTrace);
 impl Trace {
     pub fn new(words: &[u64]) -> Trace {
         Trace(AlgebraicExecutionTrace { processor_trace: Main::new(words, Order::Rows).0 })
+    }
+
+    /// Its rows, in the words that the original keeps.
+    pub fn dump(&self) -> Vec<[u64; MAIN_WIDTH]> {
+        let trace = self.0.processor_trace.view();
+        (0..trace.nrows()).map(|row| std::array::from_fn(|column| trace[[row, column]].raw_u64())).collect()
     }
 }
 

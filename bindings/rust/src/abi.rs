@@ -20,6 +20,11 @@ mod raw {
         pub fn tealbobbin_base_sub(a: u64, b: u64, out: *mut u64, len: usize) -> u32;
         pub fn tealbobbin_base_mul(a: u64, b: u64, out: *mut u64, len: usize) -> u32;
         pub fn tealbobbin_base_inverse(a: u64, out: *mut u64, len: usize) -> u32;
+        pub fn tealbobbin_to_montgomery(a: u64, out: *mut u64, len: usize) -> u32;
+        pub fn tealbobbin_from_montgomery(a: u64, out: *mut u64, len: usize) -> u32;
+        pub fn tealbobbin_montgomery_add(a: u64, b: u64, out: *mut u64, len: usize) -> u32;
+        pub fn tealbobbin_montgomery_mul(a: u64, b: u64, out: *mut u64, len: usize) -> u32;
+        pub fn tealbobbin_montgomery_inverse(a: u64, out: *mut u64, len: usize) -> u32;
         pub fn tealbobbin_element_add(a: *const u64, al: usize, b: *const u64, bl: usize, out: *mut u64, len: usize) -> u32;
         pub fn tealbobbin_element_sub(a: *const u64, al: usize, b: *const u64, bl: usize, out: *mut u64, len: usize) -> u32;
         pub fn tealbobbin_element_mul(a: *const u64, al: usize, b: *const u64, bl: usize, out: *mut u64, len: usize) -> u32;
@@ -115,6 +120,7 @@ mod raw {
             il: usize,
             output: *const u64,
             len: usize,
+            form: u64,
             bytes: *mut u8,
             bl: usize,
         ) -> u32;
@@ -155,6 +161,16 @@ pub(crate) fn words<T: Words>(items: &[T]) -> &[u64] {
 pub(crate) fn words_mut<T: Words>(items: &mut [T]) -> &mut [u64] {
     // SAFETY: by the trait, the same memory holds that many words, and any words may be written there
     unsafe { from_raw_parts_mut(items.as_mut_ptr().cast(), size_of_val(items) / size_of::<u64>()) }
+}
+
+macro_rules! of_a_word {
+    ($($(#[$meaning:meta])* $name:ident = $raw:ident),* $(,)?) => { $(
+        $(#[$meaning])*
+        #[must_use]
+        pub fn $name(a: u64, out: &mut [u64]) -> u32 {
+            unsafe { raw::$raw(a, out.as_mut_ptr(), out.len()) }
+        }
+    )* };
 }
 
 macro_rules! of_two_words {
@@ -209,6 +225,17 @@ macro_rules! extensions {
     )* };
 }
 
+of_a_word! {
+    /// 1 / a modulo p.
+    base_inverse = tealbobbin_base_inverse,
+    /// The plain word in Montgomery form: a·2^64 modulo p.
+    to_montgomery = tealbobbin_to_montgomery,
+    /// The word in the form as a plain one: a / 2^64 modulo p.
+    from_montgomery = tealbobbin_from_montgomery,
+    /// The inverse of a word in the form, in the form.
+    montgomery_inverse = tealbobbin_montgomery_inverse,
+}
+
 of_two_words! {
     /// a + b modulo p.
     base_add = tealbobbin_base_add,
@@ -216,6 +243,10 @@ of_two_words! {
     base_sub = tealbobbin_base_sub,
     /// a·b modulo p.
     base_mul = tealbobbin_base_mul,
+    /// The sum of words in Montgomery form, in the form.
+    montgomery_add = tealbobbin_montgomery_add,
+    /// The product of words in Montgomery form, in the form.
+    montgomery_mul = tealbobbin_montgomery_mul,
 }
 
 of_two_elements! {
@@ -241,12 +272,6 @@ extensions! {
     extend = tealbobbin_extend,
     /// The same, if every row of `main` decodes.
     extend_strict = tealbobbin_extend_strict,
-}
-
-/// 1 / a modulo p.
-#[must_use]
-pub fn base_inverse(a: u64, out: &mut [u64]) -> u32 {
-    unsafe { raw::tealbobbin_base_inverse(a, out.as_mut_ptr(), out.len()) }
 }
 
 /// k·a.
@@ -343,9 +368,10 @@ pub fn open(bytes: &[u8], slices: [&mut [u64]; 8], counts: &mut [u64]) -> u32 {
     }
 }
 
-/// The batch with these slices' contents into `bytes`: trace, op stack, RAM, jump stack, sampled, digest, input, output.
+/// The batch with these slices' contents into `bytes`: trace, op stack, RAM, jump stack, sampled, digest, input, output. Its rows are
+/// plain if `form` is 0, and otherwise in Montgomery form.
 #[must_use]
-pub fn write(slices: [&[u64]; 8], bytes: &mut [u8]) -> u32 {
+pub fn write(slices: [&[u64]; 8], form: u64, bytes: &mut [u8]) -> u32 {
     let [trace, op_stack, ram, jump_stack, sampled, digest, input, output] = slices;
     unsafe {
         raw::tealbobbin_write(
@@ -365,6 +391,7 @@ pub fn write(slices: [&[u64]; 8], bytes: &mut [u8]) -> u32 {
             input.len(),
             output.as_ptr(),
             output.len(),
+            form,
             bytes.as_mut_ptr(),
             bytes.len(),
         )

@@ -1,32 +1,35 @@
 //! Batches: one run's trace, differences, sampled challenges and claim in one row of bytes. docs/BATCH.md has the format.
 //!
-//! A house fills a batch and writes it, a station opens it:
+//! A house fills a batch and writes it, with its rows in the form that it is told, and a station opens it:
 //!
 //! ```
-//! use tealbobbin::batch::Batch;
+//! use tealbobbin::batch::{Batch, Form};
 //! use tealbobbin::challenges::{Challenges, Claim, SampledChallenges};
 //! use tealbobbin::field::Element;
 //! use tealbobbin::processor::{ClkJumpDiffs, MainRow};
 //!
 //! let mut batch = Batch::new();
 //! batch
-//!     .set_trace(&[MainRow::ZERO; 3])?
+//!     .set_trace(&[MainRow([1; 39]); 3])?
 //!     .set_differences(ClkJumpDiffs { op_stack: &[2, 0, 1], ram: &[1, 1], jump_stack: &[] })?
 //!     .set_sampled(&SampledChallenges([Element::from(2); Challenges::SAMPLE_COUNT]))
 //!     .set_claim(Claim { program_digest: [1, 2, 3, 4, 5], input: &[9, 7], output: &[8] })?;
-//! let mut bytes = vec![0; batch.written_len()];
-//! batch.write(&mut bytes)?;
+//! for form in [Form::Plain, Form::Montgomery] {
+//!     let mut bytes = vec![0; batch.written_len()];
+//!     batch.write(form, &mut bytes)?;
 //!
-//! let opened = Batch::open(&bytes)?;
-//! assert_eq!(opened.trace(), batch.trace());
-//! assert_eq!(opened.sampled(), batch.sampled());
-//! assert_eq!(opened.claim(), batch.claim());
-//! assert_eq!(opened.differences(), ClkJumpDiffs { op_stack: &[0, 1, 2], ram: &[1, 1], jump_stack: &[] });
+//!     // words are plain once they are opened
+//!     let opened = Batch::open(&bytes)?;
+//!     assert_eq!(opened.trace(), batch.trace());
+//!     assert_eq!(opened.sampled(), batch.sampled());
+//!     assert_eq!(opened.claim(), batch.claim());
+//!     assert_eq!(opened.differences(), ClkJumpDiffs { op_stack: &[0, 1, 2], ram: &[1, 1], jump_stack: &[] });
 //!
-//! // a run has one batch: whoever packs it, in whatever order its differences come, writes these bytes
-//! let mut again = vec![0; opened.written_len()];
-//! opened.write(&mut again)?;
-//! assert_eq!(again, bytes);
+//!     // a run has one batch in each form: whoever packs it, in whatever order its differences come, writes these bytes
+//!     let mut again = vec![0; opened.written_len()];
+//!     opened.write(form, &mut again)?;
+//!     assert_eq!(again, bytes);
+//! }
 //! # Ok::<(), tealbobbin::Refusal>(())
 //! ```
 
@@ -50,6 +53,16 @@ pub const MAX_DIFFERENCES: usize = 128;
 
 /// The most words of a batch's input, and of its output.
 pub const MAX_IO_WORDS: usize = 64;
+
+/// The form of the words in a batch's rows. It is no part of what the batch brings: opened, all words are plain.
+#[derive(Debug, Clone, Copy, Default, PartialEq, Eq, Hash)]
+pub enum Form {
+    /// Plain words: command 02.
+    #[default]
+    Plain = 0,
+    /// Words in [Montgomery form](crate::field::Montgomery): command 0A.
+    Montgomery = 1,
+}
 
 /// What a batch brings, opened or to be written. It takes 16 KB and allocates nothing.
 #[derive(Clone)]
@@ -82,7 +95,7 @@ impl Batch {
         }
     }
 
-    /// Reads a batch of at most [`MAX_BYTES`] bytes.
+    /// Reads a batch of at most [`MAX_BYTES`] bytes, with rows of either [`Form`].
     ///
     /// # Errors
     ///
@@ -164,14 +177,14 @@ impl Batch {
         others + row * rows as usize + word * words.iter().sum::<u64>() as usize
     }
 
-    /// Writes the batch into [`written_len`](Batch::written_len) bytes, the differences sorted. Batches with equal contents, in
-    /// whatever order their differences are, have equal bytes.
+    /// Writes the batch into [`written_len`](Batch::written_len) bytes, its rows in this form, the differences sorted. Batches with
+    /// equal contents, in whatever order their differences are, have equal bytes in each form.
     ///
     /// # Errors
     ///
     /// [`Refusal::SliceLength`] at another number of bytes, then [`Refusal::RowCount`] if there is no row, then
     /// [`Refusal::WordNotBelowP`].
-    pub fn write(&self, bytes: &mut [u8]) -> Result<(), Refusal> {
+    pub fn write(&self, form: Form, bytes: &mut [u8]) -> Result<(), Refusal> {
         let (ClkJumpDiffs { op_stack, ram, jump_stack }, claim) = (self.differences(), self.claim());
         let slices = [
             words(self.trace()),
@@ -183,7 +196,7 @@ impl Batch {
             claim.input,
             claim.output,
         ];
-        answer(abi::write(slices, bytes), ())
+        answer(abi::write(slices, form as u64, bytes), ())
     }
 
     /// The trace.
@@ -256,14 +269,42 @@ mod tests {
 
     const CLAIM: Claim<'_> = Claim { program_digest: [0; 5], input: &[], output: &[] };
 
+    const FORMS: [Form; 2] = [Form::Plain, Form::Montgomery];
+
     #[test]
     fn the_example() {
         let mut batch = Batch::new();
         batch.set_trace(&[MainRow::ZERO]).unwrap().set_sampled(&SampledChallenges([Element::from(2); Challenges::SAMPLE_COUNT]));
-        let mut bytes = [0; 1777];
-        assert_eq!(batch.write(&mut bytes), Ok(()));
-        assert_eq!(&bytes, include_bytes!("../../../examples/document-01.batch"));
-        assert_eq!(Batch::open(&bytes), Ok(batch));
+        let files: [&[u8; 1777]; 2] = [
+            include_bytes!("../../../examples/document-01.batch"),
+            include_bytes!("../../../examples/document-01-montgomery.batch"),
+        ];
+        for (form, file) in FORMS.into_iter().zip(files) {
+            let mut bytes = [0; 1777];
+            assert_eq!(batch.write(form, &mut bytes), Ok(()));
+            assert_eq!(&bytes, file);
+            assert_eq!(Batch::open(&bytes).as_ref(), Ok(&batch));
+        }
+    }
+
+    /// Rows of both forms in one batch, whichever comes first.
+    #[test]
+    fn a_mixture() {
+        let mut batch = Batch::new();
+        batch.set_trace(&[MainRow::ZERO; 3]).unwrap();
+        let [plain, montgomery] = FORMS.map(|form| {
+            let mut bytes = [0; 1464 + 3 * 313];
+            batch.write(form, &mut bytes).unwrap();
+            bytes
+        });
+        for place in [1463, 1463 + 313, 1463 + 2 * 313] {
+            assert_eq!((plain[place], montgomery[place]), (2, 10));
+            for (whole, other) in [(plain, 10), (montgomery, 2)] {
+                let mut bytes = whole;
+                bytes[place] = other;
+                assert_eq!(Batch::open(&bytes), Err(Refusal::CommandOutOfPlace));
+            }
+        }
     }
 
     #[test]
@@ -285,9 +326,11 @@ mod tests {
         assert_eq!(batch.set_claim(Claim { input: longer, ..CLAIM }).err(), Some(Refusal::SliceLength));
         assert_eq!(batch.set_claim(Claim { output: longer, ..CLAIM }).err(), Some(Refusal::SliceLength));
         assert_eq!(batch, full);
-        let mut bytes = [0; 16_088];
-        assert_eq!(batch.write(&mut bytes), Ok(()));
-        assert_eq!(Batch::open(&bytes), Ok(full));
+        for form in FORMS {
+            let mut bytes = [0; 16_088];
+            assert_eq!(batch.write(form, &mut bytes), Ok(()));
+            assert_eq!(Batch::open(&bytes).as_ref(), Ok(&full));
+        }
     }
 
     #[test]
@@ -298,19 +341,21 @@ mod tests {
         batch.set_claim(Claim { output: &[4], ..CLAIM }).unwrap();
         batch.set_differences(ClkJumpDiffs { op_stack: &[1, 2], ram: &[3], jump_stack: &[4] }).unwrap();
         batch.set_differences(ClkJumpDiffs::default()).unwrap();
-        assert_eq!(batch.write(&mut bytes), Ok(()));
+        assert_eq!(batch.write(Form::default(), &mut bytes), Ok(()));
         assert_eq!(Batch::open(&bytes).unwrap().claim(), Claim { output: &[4], ..CLAIM });
     }
 
     #[test]
     fn refusals() {
-        let (mut batch, mut bytes) = (Batch::new(), [9; 1777]);
-        assert_eq!(batch.written_len(), 1464);
-        assert_eq!(batch.write(&mut bytes[..1464]), Err(Refusal::RowCount));
-        assert_eq!(batch.write(&mut bytes[..1463]), Err(Refusal::SliceLength));
-        batch.set_trace(&[MainRow([P; MAIN_WIDTH])]).unwrap();
-        assert_eq!(batch.write(&mut bytes[..1776]), Err(Refusal::SliceLength));
-        assert_eq!(batch.write(&mut bytes), Err(Refusal::WordNotBelowP));
-        assert_eq!(bytes, [9; 1777]);
+        for form in FORMS {
+            let (mut batch, mut bytes) = (Batch::new(), [9; 1777]);
+            assert_eq!(batch.written_len(), 1464);
+            assert_eq!(batch.write(form, &mut bytes[..1464]), Err(Refusal::RowCount));
+            assert_eq!(batch.write(form, &mut bytes[..1463]), Err(Refusal::SliceLength));
+            batch.set_trace(&[MainRow([P; MAIN_WIDTH])]).unwrap();
+            assert_eq!(batch.write(form, &mut bytes[..1776]), Err(Refusal::SliceLength));
+            assert_eq!(batch.write(form, &mut bytes), Err(Refusal::WordNotBelowP));
+            assert_eq!(bytes, [9; 1777]);
+        }
     }
 }

@@ -33,12 +33,12 @@
 //! }
 //! ```
 //!
-//! [`processor`] has an example of rows built by hand, [`batch`] one of a batch that is filled, written and opened again, and
-//! [`isa`] says why a row does not decode.
+//! [`processor`] has an example of rows built by hand, [`batch`] one of a batch that is filled, written and opened again in both
+//! forms of rows, [`field::Montgomery`] one of arithmetic in the prover's form, and [`isa`] says why a row does not decode.
 //!
-//! A word is a `u64` below [`field::P`], an [`Element`](field::Element) three of them. Rows, elements and challenges are types over
-//! their words, which are lent to the library where they lie, without a copy. A function that turns its input away answers with a
-//! [`Refusal`] and has written nothing; none panics.
+//! A word is a `u64` below [`field::P`], an [`Element`](field::Element) three of them; a word in Montgomery form is a type of its own,
+//! [`Montgomery`](field::Montgomery). Rows, elements and challenges are types over their words, which are lent to the library where
+//! they lie, without a copy. A function that turns its input away answers with a [`Refusal`] and has written nothing; none panics.
 //!
 //! The crate needs neither the standard library nor an allocator. It links `libtealbobbin.a` from the repository's
 //! `target/staticlib`, where `rt staticlib tealbobbin` writes it, or from the folder that the environment variable `TEALBOBBIN_LIB`

@@ -72,16 +72,17 @@ refusals! {
     ZeroDenominator = 6, "a denominator is zero, or what is to be inverted (where extension refuses, a challenge equals an entry of \
         a lookup column: sample the challenges again)";
     /// 7: a byte of a batch is no command.
-    UnknownCommand = 7, "a byte of the batch is no command (commands are 00 to 09; the operand before it may have another width than \
+    UnknownCommand = 7, "a byte of the batch is no command (commands are 00 to 0A; the operand before it may have another width than \
         its command asks)";
     /// 8: a batch ends too early.
     BatchCutOff = 8, "the batch ends inside an operand or before its end, 00 (compare its length with what was sent)";
     /// 9: a batch has a command out of place or too often, or lacks one.
     CommandOutOfPlace = 9, "the batch has a command out of place or too often, or lacks one (01 first and once, 06 and 07 once each, \
-        02 as often as 01 says, 03 to 05 at most {MAX_DIFFERENCES} times each, 08 and 09 at most {MAX_IO_WORDS} times each, 00 last)";
+        02 or 0A, the same throughout, as often as 01 says, 03 to 05 at most {MAX_DIFFERENCES} times each, 08 and 09 at most \
+        {MAX_IO_WORDS} times each, 00 last)";
     /// 10: a batch has a command behind one that belongs after it, or a difference below the one before it.
     CommandOutOfOrder = 10, "the batch has a command behind one that belongs after it, or a difference below the one before it (the \
-        order is 01, 07, all 08, all 09, 06, all 02, all 03, all 04, all 05, 00, each list of differences not descending)";
+        order is 01, 07, all 08, all 09, 06, all rows, all 03, all 04, all 05, 00, each list of differences not descending)";
     /// 11: a row does not decode; of [`extend_strict`](crate::processor::extend_strict) alone.
     UndecodableRow = 11, "a row of the main table does not decode (isa::decode says of each row what it decodes to, or why not; \
         processor::extend takes such rows)";

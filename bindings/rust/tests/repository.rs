@@ -1,7 +1,7 @@
 //! What the crate says, held to the repository's other files.
 
 use tealbobbin::air::{ChallengeId, ProcessorAuxColumn, ProcessorMainColumn};
-use tealbobbin::batch::Batch;
+use tealbobbin::batch::{Batch, Form};
 use tealbobbin::challenges::{Challenges, Claim, SampledChallenges};
 use tealbobbin::field::Element;
 use tealbobbin::isa::name;
@@ -49,15 +49,30 @@ fn bytes_of(mut text: &str) -> Vec<u8> {
     bytes
 }
 
-/// The example of docs/BATCH.md, and what the page says of it.
+/// The commands that a list on the page shows, each with its place in the batch.
+fn commands_in(list: &str) -> Vec<(usize, Vec<u8>)> {
+    let lines = list.lines().skip(1).take_while(|line| !line.is_empty());
+    lines
+        .map(|line| {
+            let columns: Vec<&str> = line.split("  ").map(str::trim).filter(|column| !column.is_empty()).collect();
+            (columns[0].parse().unwrap(), bytes_of(columns[1]))
+        })
+        .collect()
+}
+
+/// The example of docs/BATCH.md in both forms, and what the page says of it.
 #[test]
 fn batch_page_shows_a_batch() {
-    let page = include_str!("../../../docs/BATCH.md").lines();
+    let lists: Vec<_> = include_str!("../../../docs/BATCH.md").split("    offset").skip(1).map(commands_in).collect();
+    let [whole, rows] = &lists[..] else { panic!("{} lists", lists.len()) };
     let mut shown = vec![];
-    for line in page.skip_while(|line| !line.starts_with("    offset")).skip(1).take_while(|line| !line.is_empty()) {
-        let columns: Vec<&str> = line.split("  ").map(str::trim).filter(|column| !column.is_empty()).collect();
-        assert_eq!(columns[0].parse(), Ok(shown.len()));
-        shown.extend(bytes_of(columns[1]));
+    for (place, command) in whole {
+        assert_eq!(*place, shown.len());
+        shown.extend(command);
+    }
+    let mut montgomery = shown.clone();
+    for (place, row) in rows {
+        montgomery[*place..place + row.len()].copy_from_slice(row);
     }
     let mut trace = [MainRow::ZERO; 2];
     trace[1][ProcessorMainColumn::CLK] = 1;
@@ -65,9 +80,15 @@ fn batch_page_shows_a_batch() {
     batch.set_trace(&trace).unwrap().set_sampled(&SampledChallenges([Element::from(2); Challenges::SAMPLE_COUNT]));
     batch.set_differences(ClkJumpDiffs { op_stack: &[1, 0, 1], ram: &[], jump_stack: &[1] }).unwrap();
     batch.set_claim(Claim { program_digest: [1, 2, 3, 4, 5], input: &[7, 5], output: &[12] }).unwrap();
-    let mut written = vec![0; 2153];
-    batch.write(&mut written).unwrap();
-    assert_eq!(shown, written);
+    for (form, shown) in [(Form::Plain, &shown), (Form::Montgomery, &montgomery)] {
+        let mut written = vec![0; 2153];
+        batch.write(form, &mut written).unwrap();
+        assert_eq!(*shown, written);
+    }
+    for (first, second) in [(&shown, &montgomery), (&montgomery, &shown)] {
+        let mixed = [&first[..1803], &second[1803..]].concat();
+        assert_eq!(Batch::open(&mixed), Err(Refusal::CommandOutOfPlace));
+    }
 
     let exchanged = [&shown[..2116], &shown[2125..2134], &shown[2116..2125], &shown[2134..]].concat();
     assert_eq!(Batch::open(&exchanged), Err(Refusal::CommandOutOfOrder));

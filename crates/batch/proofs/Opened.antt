@@ -10,18 +10,19 @@ use Rattle.refusal.specs.declared.Refusal.the-variants.{SliceLength}
 use Rattle.batch_reader.specs.declared.Counts.{Counts}
 use Rattle.batch_reader.specs.declared.OpenAnswer.{OpenAnswer}
 use Rattle.batch_reader.specs.declared.OpenAnswer.the-variants.{Opened, Refused}
-use Rattle.batch_commands.specs.Format.{ROW, OP-STACK, RAM, JUMP-STACK, INPUT, OUTPUT, Command}
+use Rattle.batch_commands.specs.Format.{OP-STACK, RAM, JUMP-STACK, INPUT, OUTPUT, Command}
 use Rattle.batch_reader.specs.Commands.{counts}
 use Rattle.batch_reader.specs.Reading.{Reading, read, refused, reading}
 use Rattle.batch_reader.specs.Answers.{countsIn, answerOf}
 use Rattle.batch.specs.Open.{openAnswer}
 use Rattle.batch.specs.Lent.{Within}
 use Rattle.batch_reader.proofs.Bounds.{Bounded, bounded}
+use Rattle.batch_reader.proofs.Rows.{few-rows}
 
 of-commands : (ks : List Command) → Bounded ks → Within (countsIn (counts ks)) 1248 128 128 128 64 64
 of-commands ks b =
     record {
-      in-trace = omega (arith, b .few-rows, b .within ROW (lit< tt));
+      in-trace = omega (arith, b .few-rows, few-rows ks b);
       in-op-stack = b .within OP-STACK (lit< tt);
       in-ram = b .within RAM (lit< tt);
       in-jump-stack = b .within JUMP-STACK (lit< tt);

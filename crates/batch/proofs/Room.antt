@@ -16,6 +16,7 @@ use Rattle.batch_reader.specs.Answers.{answerOf, brought}
 use Rattle.batch.specs.Open.{rightLengths}
 use Rattle.batch_reader.proofs.Commands.{length-contents}
 use Rattle.batch_reader.proofs.Bounds.{bounded}
+use Rattle.batch_reader.proofs.Rows.{length-rows, few-rows}
 
 read-by : (r : Reading) (counts : Counts) → answerOf r ≡ Opened counts → r ≡ read (commandsOf r)
 read-by (read commands) counts e = refl
@@ -49,7 +50,7 @@ module _ (batch : List ℕ) (trace op-stack ram jump-stack sampled digest input 
       let e2 = and-true (eqb trace 1248 && eqb op-stack 128) (eqb ram 128) (e3 .0) in
       let e1 = and-true (eqb trace 1248) (eqb op-stack 128) (e2 .0) in
       record {
-        for-trace = let n = eqb-true trace 1248 (e1 .0) in omega (arith, length-contents ROW ks, b .within ROW (lit< tt));
+        for-trace = let n = eqb-true trace 1248 (e1 .0) in omega (arith, length-rows ks, few-rows ks b);
         for-op-stack = let n = eqb-true op-stack 128 (e1 .1) in omega (arith, length-contents OP-STACK ks, b .within OP-STACK (lit< tt));
         for-ram = let n = eqb-true ram 128 (e2 .1) in omega (arith, length-contents RAM ks, b .within RAM (lit< tt));
         for-jump-stack = let n = eqb-true jump-stack 128 (e3 .1) in omega (arith, length-contents JUMP-STACK ks, b .within JUMP-STACK (lit< tt));

@@ -1,7 +1,9 @@
 // Open: it decides on its answer first, and writes only then, section by section.
 use batch_reader::OpenAnswer;
 use batch_reader::read;
+use batch_reader::unchecked::put_rows;
 use batch_reader::unchecked::put_section;
+use field_montgomery::Form;
 use refusal::Refusal;
 ghost use mathlib.Core.Path.{_≡_};
 ghost use lib.ListN.{length};
@@ -93,14 +95,26 @@ pub fn open(
     match answer {
         OpenAnswer::Refused(refusal) => OpenAnswer::Refused(refusal),
         OpenAnswer::Opened(counts) => {
-            let at = put_section(batch, BEHIND_ROWS, batch_commands::DIGEST, digest);
-            let at = put_section(batch, at, batch_commands::INPUT, input);
-            let at = put_section(batch, at, batch_commands::OUTPUT, output);
-            let at = put_section(batch, at, batch_commands::SAMPLED, sampled);
-            let at = put_section(batch, at, batch_commands::ROW, trace);
-            let at = put_section(batch, at, batch_commands::OP_STACK, op_stack);
-            let at = put_section(batch, at, batch_commands::RAM, ram);
-            put_section(batch, at, batch_commands::JUMP_STACK, jump_stack);
+            let at = put_section(
+                batch,
+                BEHIND_ROWS,
+                batch_commands::DIGEST,
+                Form::Plain,
+                digest,
+            );
+            let at = put_section(batch, at, batch_commands::INPUT, Form::Plain, input);
+            let at = put_section(batch, at, batch_commands::OUTPUT, Form::Plain, output);
+            let at = put_section(batch, at, batch_commands::SAMPLED, Form::Plain, sampled);
+            let at = put_rows(batch, at, trace);
+            let at = put_section(batch, at, batch_commands::OP_STACK, Form::Plain, op_stack);
+            let at = put_section(batch, at, batch_commands::RAM, Form::Plain, ram);
+            put_section(
+                batch,
+                at,
+                batch_commands::JUMP_STACK,
+                Form::Plain,
+                jump_stack,
+            );
             OpenAnswer::Opened(counts)
         }
     }

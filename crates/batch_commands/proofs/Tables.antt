@@ -1,13 +1,21 @@
 -- What holds of each command, by a table that is computed.
 use mathlib.Core.Path.{_≡_, refl, sym, ap, _∙_}
+use mathlib.Core.Bool.{Bool, true, false, cond, _&&_, _||_}
 use mathlib.Core.List.{List, [], _∷_, map}
 use Prim.Native.Nat.{ℕ, zero, suc, _+_, _≤_, _<_}
 use native.Mathlib.Nat.{add-zero, zero-add, not-suc-le-zero}
 use native.Mathlib.Omega.{arith}
-use lib.Dec.{lit≤}
+use lib.Dec.{eqb, leb, lit<}
 use lib.ListN.{take, getD}
 use lib.Seq.{take-take}
-use Rattle.batch_commands.specs.Format.{OP-STACK, RAM, JUMP-STACK, width, rank, keyWidth, key}
+use borrow.Author.Tests.{eqb-true, eqb-false, leb-true}
+use Rattle.field_base.proofs.Below.{and-true}
+use Rattle.refusal.proofs.Answers.{or-false}
+use Rattle.field_montgomery.specs.declared.Form.{Form}
+use Rattle.field_montgomery.specs.declared.Form.the-variants.{Plain, Montgomery}
+use Rattle.batch_commands.specs.Format.{ROW, OP-STACK, RAM, JUMP-STACK, MONTGOMERY-ROW, COMMANDS, width, rank, keyWidth, key}
+use Rattle.batch_commands.specs.Form.{rowCommand, OfForm}
+use Rattle.batch_commands.specs.Fault.{limit}
 
 -- n numbers from a on
 abbrev pub from : ℕ → ℕ → List ℕ
@@ -30,12 +38,12 @@ up : (k code : ℕ) → k ≤ code → (code ≡ k → ⊥) → suc k ≤ code
 up k code l n = omega arith
 
 abbrev Others : ℕ → Type 0
-Others code = ((((((((Unit × (code ≡ 0 → ⊥)) × (code ≡ 1 → ⊥)) × (code ≡ 2 → ⊥)) × (code ≡ 3 → ⊥)) × (code ≡ 4 → ⊥)) × (code ≡ 5 → ⊥)) × (code ≡ 6 → ⊥)) × (code ≡ 7 → ⊥)) × (code ≡ 8 → ⊥)
+Others code = (((((((((Unit × (code ≡ 0 → ⊥)) × (code ≡ 1 → ⊥)) × (code ≡ 2 → ⊥)) × (code ≡ 3 → ⊥)) × (code ≡ 4 → ⊥)) × (code ≡ 5 → ⊥)) × (code ≡ 6 → ⊥)) × (code ≡ 7 → ⊥)) × (code ≡ 8 → ⊥)) × (code ≡ 9 → ⊥)
 
-pub last : (code : ℕ) → code < 10 → Others code → code ≡ 9
+pub last : (code : ℕ) → code < COMMANDS → Others code → code ≡ 10
 last code l n =
-    let u = up 8 code (up 7 code (up 6 code (up 5 code (up 4 code (up 3 code (up 2 code (up 1 code (up 0 code (omega arith)
-    (n .0 .0 .0 .0 .0 .0 .0 .0 .1)) (n .0 .0 .0 .0 .0 .0 .0 .1)) (n .0 .0 .0 .0 .0 .0 .1)) (n .0 .0 .0 .0 .0 .1)) (n .0 .0 .0 .0 .1)) (n .0 .0 .0 .1)) (n .0 .0 .1)) (n .0 .1)) (n .1) in
+    let u = up 9 code (up 8 code (up 7 code (up 6 code (up 5 code (up 4 code (up 3 code (up 2 code (up 1 code (up 0 code (omega arith)
+    (n .0 .0 .0 .0 .0 .0 .0 .0 .0 .1)) (n .0 .0 .0 .0 .0 .0 .0 .0 .1)) (n .0 .0 .0 .0 .0 .0 .0 .1)) (n .0 .0 .0 .0 .0 .0 .1)) (n .0 .0 .0 .0 .0 .1)) (n .0 .0 .0 .0 .1)) (n .0 .0 .0 .1)) (n .0 .0 .1)) (n .0 .1)) (n .1) in
     omega arith
 
 -- P of each of n numbers from a on
@@ -50,31 +58,84 @@ each-at P a (suc n) (suc i) h l =
     let e : a + suc i ≡ suc a + i = omega arith in
     rw e (each-at P (suc a) n i (h .1) (omega arith))
 
-pub of-each : (P : ℕ → Type 0) → Each P 0 10 → (code : ℕ) → code < 10 → P code
-of-each P h code l = rw (zero-add code) at (each-at P 0 10 code h l)
+pub of-each : (P : ℕ → Type 0) → Each P 0 COMMANDS → (code : ℕ) → code < COMMANDS → P code
+of-each P h code l = rw (zero-add code) at (each-at P 0 COMMANDS code h l)
 
--- the command at a rank
-abbrev At : ℕ → Type 0
-At code = getD (1 ∷ 7 ∷ 8 ∷ 9 ∷ 6 ∷ 2 ∷ 3 ∷ 4 ∷ 5 ∷ 0 ∷ []) (rank code) 0 ≡ code
+-- a test of each command, computed
+abbrev tested : (ℕ → Bool) → ℕ → ℕ → Bool
+tested test a zero = true
+tested test a (suc n) = test a && tested test (suc a) n
 
-pub rank-injective : (a b : ℕ) → a < 10 → b < 10 → rank a ≡ rank b → a ≡ b
-rank-injective a b l m e =
-    let at = of-each At (refl, (refl, (refl, (refl, (refl, (refl, (refl, (refl, (refl, (refl, tt)))))))))) in
-    sym (at a l) ∙ ap (λ r. getD (1 ∷ 7 ∷ 8 ∷ 9 ∷ 6 ∷ 2 ∷ 3 ∷ 4 ∷ 5 ∷ 0 ∷ []) r 0) e ∙ at b m
+each-tested : (test : ℕ → Bool) (a n : ℕ) → tested test a n ≡ true → Each (λ code. test code ≡ true) a n
+each-tested test a zero e = tt
+each-tested test a (suc n) e = let h = and-true (test a) (tested test (suc a) n) e in (h .0, each-tested test (suc a) n (h .1))
+
+pub of-test : (test : ℕ → Bool) → tested test 0 COMMANDS ≡ true → (code : ℕ) → code < COMMANDS → test code ≡ true
+of-test test e = of-each (λ code. test code ≡ true) (each-tested test 0 COMMANDS e)
+
+-- the command at a rank; of the rows' two, 02
+abbrev atRank : ℕ → ℕ
+atRank r = getD (1 ∷ 7 ∷ 8 ∷ 9 ∷ 6 ∷ 2 ∷ 3 ∷ 4 ∷ 5 ∷ 0 ∷ []) r 0
+
+abbrev firstOf : ℕ → ℕ
+firstOf code = cond (eqb code MONTGOMERY-ROW) ROW code
+
+at-rank : (code : ℕ) → code < COMMANDS → atRank (rank code) ≡ firstOf code
+at-rank code l = eqb-true (atRank (rank code)) (firstOf code) (of-test (λ c. eqb (atRank (rank c)) (firstOf c)) refl code l)
+
+first-injective : (form : Form) (a b : ℕ) (montgomery-a montgomery-b : Bool) → eqb a MONTGOMERY-ROW ≡ montgomery-a → eqb b MONTGOMERY-ROW ≡ montgomery-b → OfForm form a → OfForm form b
+    → cond montgomery-a ROW a ≡ cond montgomery-b ROW b → a ≡ b
+first-injective form a b true true e q f g h = eqb-true a MONTGOMERY-ROW e ∙ sym (eqb-true b MONTGOMERY-ROW q)
+first-injective form a b false false e q f g h = h
+first-injective Plain a b true false e q f g h = absurd (f (eqb-true a MONTGOMERY-ROW e))
+first-injective Montgomery a b true false e q f g h = absurd (g (sym h))
+first-injective Plain a b false true e q f g h = absurd (g (eqb-true b MONTGOMERY-ROW q))
+first-injective Montgomery a b false true e q f g h = absurd (f h)
+
+-- no two commands of a form have one rank
+pub rank-injective : (form : Form) (a b : ℕ) → a < COMMANDS → b < COMMANDS → OfForm form a → OfForm form b → rank a ≡ rank b → a ≡ b
+rank-injective form a b l m f g e = first-injective form a b (eqb a MONTGOMERY-ROW) (eqb b MONTGOMERY-ROW) refl refl f g (sym (at-rank a l) ∙ ap atRank e ∙ at-rank b m)
+
+-- what is no row is of any form
+pub of-any : (form : Form) (code : ℕ) → (eqb code ROW || eqb code MONTGOMERY-ROW) ≡ false → OfForm form code
+of-any Plain code e = eqb-false code MONTGOMERY-ROW (or-false (eqb code ROW) (eqb code MONTGOMERY-ROW) e .1)
+of-any Montgomery code e = eqb-false code ROW (or-false (eqb code ROW) (eqb code MONTGOMERY-ROW) e .0)
+
+-- a row in either form
+pub row-known : (form : Form) → rowCommand form < COMMANDS
+row-known Plain = lit< tt
+row-known Montgomery = lit< tt
+
+pub row-of : (form : Form) → OfForm form (rowCommand form)
+row-of Plain e = omega arith
+row-of Montgomery e = omega arith
+
+pub row-width : (form : Form) → width (rowCommand form) ≡ width ROW
+row-width Plain = refl
+row-width Montgomery = refl
+
+pub row-limit : (rows : ℕ) (form : Form) → limit rows (rowCommand form) ≡ rows
+row-limit rows Plain = refl
+row-limit rows Montgomery = refl
+
+pub row-rank : (form : Form) → rank (rowCommand form) ≡ rank ROW
+row-rank Plain = refl
+row-rank Montgomery = refl
 
 -- a command that is no difference has no key
-abbrev Keyless : ℕ → Type 0
-Keyless code = ((Unit × (code ≡ OP-STACK → ⊥)) × (code ≡ RAM → ⊥)) × (code ≡ JUMP-STACK → ⊥) → keyWidth code ≡ 0
+keyless-by : (code : ℕ) (op-stack ram jump-stack : Bool) → eqb code OP-STACK ≡ op-stack → eqb code RAM ≡ ram → eqb code JUMP-STACK ≡ jump-stack
+    → ((Unit {0} × (code ≡ OP-STACK → ⊥)) × (code ≡ RAM → ⊥)) × (code ≡ JUMP-STACK → ⊥) → (op-stack || ram || jump-stack || eqb (keyWidth code) 0) ≡ true → keyWidth code ≡ 0
+keyless-by code true ram jump-stack e f g n t = absurd (n .0 .0 .1 (eqb-true code OP-STACK e))
+keyless-by code false true jump-stack e f g n t = absurd (n .0 .1 (eqb-true code RAM f))
+keyless-by code false false true e f g n t = absurd (n .1 (eqb-true code JUMP-STACK g))
+keyless-by code false false false e f g n t = eqb-true (keyWidth code) 0 t
 
-pub keyless : (code : ℕ) → code < 10 → Keyless code
-keyless =
-    of-each Keyless
-    (λ n. refl, (λ n. refl, (λ n. refl, (λ n. absurd (n .0 .0 .1 refl), (λ n. absurd (n .0 .1 refl), (λ n. absurd (n .1 refl), (λ n. refl, (λ n. refl, (λ n. refl, (λ n. refl, tt))))))))))
-
-key-first : (code : ℕ) → code < 10 → keyWidth code ≤ width code
-key-first = of-each (λ code. keyWidth code ≤ width code) (lit≤ tt, (lit≤ tt, (lit≤ tt, (lit≤ tt, (lit≤ tt, (lit≤ tt, (lit≤ tt, (lit≤ tt, (lit≤ tt, (lit≤ tt, tt))))))))))
+pub keyless : (code : ℕ) → code < COMMANDS → ((Unit {0} × (code ≡ OP-STACK → ⊥)) × (code ≡ RAM → ⊥)) × (code ≡ JUMP-STACK → ⊥) → keyWidth code ≡ 0
+keyless code l n =
+    keyless-by code (eqb code OP-STACK) (eqb code RAM) (eqb code JUMP-STACK) refl refl refl n
+    (of-test (λ c. eqb c OP-STACK || eqb c RAM || eqb c JUMP-STACK || eqb (keyWidth c) 0) refl code l)
 
 -- the key lies in the operand
-pub key-within : (code : ℕ) (bytes : List ℕ) → code < 10 → key code (take (width code) bytes) ≡ key code bytes
+pub key-within : (code : ℕ) (bytes : List ℕ) → code < COMMANDS → key code (take (width code) bytes) ≡ key code bytes
 unfolding key
-key-within code bytes l = rw (take-take (keyWidth code) (width code) bytes (key-first code l))
+key-within code bytes l = rw (take-take (keyWidth code) (width code) bytes (leb-true (keyWidth code) (width code) (of-test (λ c. leb (keyWidth c) (width c)) refl code l)))

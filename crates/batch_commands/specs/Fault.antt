@@ -12,21 +12,36 @@ use Rattle.batch_commands.specs.declared.Seen.{Seen}
 use Rattle.batch_commands.specs.declared.Head.{Head}
 use Rattle.batch_commands.specs.declared.Head.the-variants.{Unknown, CutOff, Whole}
 use Rattle.batch_words.specs.Words.{number, words}
-use Rattle.batch_commands.specs.Format.{END, TRACE-ROWS, ROW, SAMPLED, DIGEST, width, wordsIn, rank, key, MAX-ROWS, MAX-DIFFERENCES, MAX-WORDS}
+use Rattle.field_montgomery.specs.declared.Form.{Form}
+use Rattle.field_montgomery.specs.declared.Form.the-variants.{Plain, Montgomery}
+use Rattle.batch_commands.specs.Format.{END, TRACE-ROWS, ROW, SAMPLED, DIGEST, MONTGOMERY-ROW, COMMANDS, width, wordsIn, rank, key, MAX-ROWS, MAX-DIFFERENCES, MAX-WORDS}
+use Rattle.batch_commands.specs.Form.{rowCommand}
 
 -- how often a command may stand: "06 and 07 once each", 01 too, and as many rows as 01 announced
 abbrev pub limit : ℕ → ℕ → ℕ
-limit rows code = getD (1 ∷ 1 ∷ rows ∷ MAX-DIFFERENCES ∷ MAX-DIFFERENCES ∷ MAX-DIFFERENCES ∷ 1 ∷ 1 ∷ MAX-WORDS ∷ MAX-WORDS ∷ []) code 0
+limit rows code = getD (1 ∷ 1 ∷ rows ∷ MAX-DIFFERENCES ∷ MAX-DIFFERENCES ∷ MAX-DIFFERENCES ∷ 1 ∷ 1 ∷ MAX-WORDS ∷ MAX-WORDS ∷ rows ∷ []) code 0
 
--- rows, 06 or 07, where `came` says how often each command came, by its byte
+-- the form of the rows that came, and how many they are, where `came` says how often each command came, by its byte
+abbrev pub formIn : List ℕ → Form
+formIn came = cond (eqb (getD came MONTGOMERY-ROW 0) 0) Plain Montgomery
+
+abbrev pub rowsIn : List ℕ → ℕ
+rowsIn came = getD came (rowCommand (formIn came)) 0
+
+-- Document 02, Three: "a mixture answers 9", at the first row in the other form
+abbrev pub mixed : List ℕ → ℕ → Bool
+mixed came code = cond (eqb code ROW) (not (eqb (getD came MONTGOMERY-ROW 0) 0)) (eqb code MONTGOMERY-ROW && not (eqb (getD came ROW 0) 0))
+
+-- rows, 06 or 07
 abbrev pub missing : ℕ → List ℕ → Bool
-missing rows came = ltb (getD came ROW 0) rows || eqb (getD came SAMPLED 0) 0 || eqb (getD came DIGEST 0) 0
+missing rows came = ltb (rowsIn came) rows || eqb (getD came SAMPLED 0) 0 || eqb (getD came DIGEST 0) 0
 
 -- "01 stands first"; "also past a count"; at 00 "9 if rows or 06 or 07 are missing or bytes follow", of which `left` are left
 abbrev pub outOfPlace : ℕ → List ℕ → ℕ → ℕ → Bool
 outOfPlace rows came code left =
     (eqb (getD came TRACE-ROWS 0) 0 && not (eqb code TRACE-ROWS))
     || leb (limit rows code) (getD came code 0)
+    || mixed came code
     || (eqb code END && (missing rows came || not (eqb left 0)))
 
 -- 01 with a value out of its range
@@ -52,11 +67,11 @@ judged seen code bytes =
 unfoldable pub fault : Seen → ℕ → List ℕ → Answer
 unfolding judged
 fault seen code bytes =
-    cond (ltb 9 code) (Refused UnknownCommand)
+    cond (leb COMMANDS code) (Refused UnknownCommand)
     (cond (ltb (length bytes) (width code)) (Refused BatchCutOff)
     (judged seen code bytes))
 
 -- what the bytes from a place on begin with
 abbrev pub headOf : List ℕ → Head
 headOf [] = CutOff
-headOf (code ∷ bytes) = cond (ltb 9 code) Unknown (cond (ltb (length bytes) (width code)) CutOff (Whole code))
+headOf (code ∷ bytes) = cond (leb COMMANDS code) Unknown (cond (ltb (length bytes) (width code)) CutOff (Whole code))

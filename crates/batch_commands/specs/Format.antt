@@ -7,7 +7,7 @@ use lib.ListN.{take, getD}
 use Rattle.batch_words.specs.Words.{number, words}
 
 -- "01 trace rows, 4 bytes, 1–32; 02 a row, 312 bytes; 03, 04, 05 a difference for op stack, RAM, jump stack, 8; 06 the sampled challenges, 1,416;
--- 07 program digest, 40; 08 input word, 8; 09 output word, 8; 00 end."
+-- 07 program digest, 40; 08 input word, 8; 09 output word, 8; 00 end." Document 02, Three: "Command 0A carries a 312-byte row in that form, in the place of 02."
 abbrev pub END : ℕ
 END = 0
 
@@ -38,6 +38,13 @@ INPUT = 8
 abbrev pub OUTPUT : ℕ
 OUTPUT = 9
 
+abbrev pub MONTGOMERY-ROW : ℕ
+MONTGOMERY-ROW = 10
+
+-- commands are the bytes below
+abbrev pub COMMANDS : ℕ
+COMMANDS = 11
+
 -- "1–32"; "At most 128 differences a list, 64 input and 64 output words."
 abbrev pub MAX-ROWS : ℕ
 MAX-ROWS = 32
@@ -50,7 +57,7 @@ MAX-WORDS = 64
 
 -- of the operand, in bytes
 abbrev pub width : ℕ → ℕ
-width code = getD (0 ∷ 4 ∷ 312 ∷ 8 ∷ 8 ∷ 8 ∷ 1416 ∷ 40 ∷ 8 ∷ 8 ∷ []) code 0
+width code = getD (0 ∷ 4 ∷ 312 ∷ 8 ∷ 8 ∷ 8 ∷ 1416 ∷ 40 ∷ 8 ∷ 8 ∷ 312 ∷ []) code 0
 
 -- the words of an operand; 01 has none
 abbrev pub wordsIn : ℕ → List ℕ → List ℕ
@@ -68,7 +75,7 @@ order =
     ∷ (INPUT ∷ [])
     ∷ (OUTPUT ∷ [])
     ∷ (SAMPLED ∷ [])
-    ∷ (ROW ∷ [])
+    ∷ (ROW ∷ MONTGOMERY-ROW ∷ [])
     ∷ (OP-STACK ∷ [])
     ∷ (RAM ∷ [])
     ∷ (JUMP-STACK ∷ [])
@@ -89,7 +96,7 @@ rank code = lineOf code order
 
 -- "each difference list not descending": the bytes at an operand's start whose number is not below that of the command before it in its list
 abbrev pub keyWidth : ℕ → ℕ
-keyWidth code = getD (0 ∷ 0 ∷ 0 ∷ 8 ∷ 8 ∷ 8 ∷ 0 ∷ 0 ∷ 0 ∷ 0 ∷ []) code 0
+keyWidth code = getD (0 ∷ 0 ∷ 0 ∷ 8 ∷ 8 ∷ 8 ∷ 0 ∷ 0 ∷ 0 ∷ 0 ∷ 0 ∷ []) code 0
 
 unfoldable pub key : ℕ → List ℕ → ℕ
 unfolding number

@@ -1,6 +1,8 @@
 // The commands of a batch, one at a time: a byte, then an operand of the width that the byte says.
+use field_montgomery::Form;
 ghost use mathlib.Core.Path.{_≡_};
 ghost use lib.ListN.{drop};
+ghost use Rattle.batch_commands.specs.Form.{rowCommand};
 ghost use Rattle.batch_commands.specs.Fault.{headOf};
 
 // For callers that know which command it is, and that its operand is whole.
@@ -26,8 +28,20 @@ pub const INPUT: usize = 8;
 
 pub const OUTPUT: usize = 9;
 
+pub const MONTGOMERY_ROW: usize = 10;
+
 // How many commands there are.
-pub const COUNT: usize = 10;
+pub const COUNT: usize = 11;
+
+// The command of a row in the form.
+pub fn row_command(form: Form) -> usize
+    ensures { λ r. ⌜ r ≡ rowCommand form ⌝ }
+{
+    match form {
+        Form::Plain => ROW,
+        Form::Montgomery => MONTGOMERY_ROW,
+    }
+}
 
 // What counts for a command of those before it.
 pub struct Seen {
@@ -57,7 +71,7 @@ pub fn head_at(batch: &[u8], at: usize) -> Head
         return Head::CutOff;
     }
     let code = batch[at] as usize;
-    if OUTPUT < code {
+    if COUNT <= code {
         return Head::Unknown;
     }
     if batch.len() - (at + 1) < unchecked::width(code) {

@@ -9,16 +9,16 @@ ghost use mathlib.Core.Path.{_≡_};
 ghost use mathlib.Core.Bool.{cond};
 ghost use Prim.Native.Nat.{_+_, _<_, _≤_};
 ghost use lib.Dec.{eqb};
-ghost use lib.ListN.{length, take, drop};
+ghost use lib.ListN.{length, take, drop, getD, set};
 ghost use Rattle.batch_words.specs.Words.{number};
-ghost use Rattle.batch_commands.specs.Format.{TRACE-ROWS, width, rank, key};
-ghost use Rattle.batch_commands.specs.Fault.{limit, missing, outOfPlace, outOfOrder, wrongRowCount, judged};
+ghost use Rattle.batch_commands.specs.Format.{TRACE-ROWS, COMMANDS, width, rank, key};
+ghost use Rattle.batch_commands.specs.Fault.{limit, rowsIn, mixed, missing, outOfPlace, outOfOrder, wrongRowCount, judged};
 
 const MAX_ROWS: u32 = 32;
 
 // The width of a command's operand, in bytes.
 pub fn width(code: usize) -> usize
-    requires { ⌜ code < 10 ⌝ }
+    requires { ⌜ code < COMMANDS ⌝ }
     ensures { λ r. ⌜ r ≡ width code ⌝ }
 {
     match code {
@@ -31,13 +31,14 @@ pub fn width(code: usize) -> usize
         crate::SAMPLED => 1416,
         crate::DIGEST => 40,
         crate::INPUT => 8,
-        _ => 8,
+        crate::OUTPUT => 8,
+        _ => 312,
     }
 }
 
 // A command's place in the order of a batch.
 pub fn rank(code: usize) -> usize
-    requires { ⌜ code < 10 ⌝ }
+    requires { ⌜ code < COMMANDS ⌝ }
     ensures { λ r. ⌜ r ≡ rank code ⌝ }
 {
     match code {
@@ -50,13 +51,14 @@ pub fn rank(code: usize) -> usize
         crate::SAMPLED => 4,
         crate::DIGEST => 1,
         crate::INPUT => 2,
-        _ => 3,
+        crate::OUTPUT => 3,
+        _ => 5,
     }
 }
 
 // What must not descend from one command of a kind to the next: a difference, or nothing.
 pub fn key_at(batch: &[u8], at: usize, code: usize) -> u64
-    requires { ⌜ (code < 10) × (at + width code ≤ length (now batch)) ⌝ }
+    requires { ⌜ (code < COMMANDS) × (at + width code ≤ length (now batch)) ⌝ }
     ensures { λ r. ⌜ r ≡ key code (drop at (now (batch .entry))) ⌝ }
 {
     match code {
@@ -69,7 +71,7 @@ pub fn key_at(batch: &[u8], at: usize, code: usize) -> u64
 
 // How often a command may stand in a batch whose 01 announced `rows`.
 fn limit(rows: usize, code: usize) -> usize
-    requires { ⌜ code < 10 ⌝ }
+    requires { ⌜ code < COMMANDS ⌝ }
     ensures { λ r. ⌜ r ≡ limit rows code ⌝ }
 {
     match code {
@@ -82,14 +84,78 @@ fn limit(rows: usize, code: usize) -> usize
         crate::SAMPLED => 1,
         crate::DIGEST => 1,
         crate::INPUT => 64,
-        _ => 64,
+        crate::OUTPUT => 64,
+        _ => rows,
+    }
+}
+
+// The rows that came, in whichever form.
+pub fn rows_in(came: [usize; crate::COUNT]) -> usize
+    ensures { λ r. ⌜ r ≡ rowsIn came ⌝ }
+{
+    if came[crate::MONTGOMERY_ROW] == 0 {
+        came[crate::ROW]
+    } else {
+        came[crate::MONTGOMERY_ROW]
+    }
+}
+
+// How often the command came. An index that is no constant would have the array laid out anew at each call.
+fn count(came: [usize; crate::COUNT], code: usize) -> usize
+    requires { ⌜ code < COMMANDS ⌝ }
+    ensures { λ r. ⌜ r ≡ getD came code 0 ⌝ }
+{
+    match code {
+        crate::END => came[crate::END],
+        crate::TRACE_ROWS => came[crate::TRACE_ROWS],
+        crate::ROW => came[crate::ROW],
+        crate::OP_STACK => came[crate::OP_STACK],
+        crate::RAM => came[crate::RAM],
+        crate::JUMP_STACK => came[crate::JUMP_STACK],
+        crate::SAMPLED => came[crate::SAMPLED],
+        crate::DIGEST => came[crate::DIGEST],
+        crate::INPUT => came[crate::INPUT],
+        crate::OUTPUT => came[crate::OUTPUT],
+        _ => came[crate::MONTGOMERY_ROW],
+    }
+}
+
+// With the command counted too.
+pub fn counted(mut came: [usize; crate::COUNT], code: usize) -> [usize; crate::COUNT]
+    requires { ⌜ (code < COMMANDS) × (getD came code 0 ≤ 128) ⌝ }
+    ensures { λ r. ⌜ r ≡ set came code (getD came code 0 + 1) ⌝ }
+{
+    match code {
+        crate::END => came[crate::END] = came[crate::END] + 1,
+        crate::TRACE_ROWS => came[crate::TRACE_ROWS] = came[crate::TRACE_ROWS] + 1,
+        crate::ROW => came[crate::ROW] = came[crate::ROW] + 1,
+        crate::OP_STACK => came[crate::OP_STACK] = came[crate::OP_STACK] + 1,
+        crate::RAM => came[crate::RAM] = came[crate::RAM] + 1,
+        crate::JUMP_STACK => came[crate::JUMP_STACK] = came[crate::JUMP_STACK] + 1,
+        crate::SAMPLED => came[crate::SAMPLED] = came[crate::SAMPLED] + 1,
+        crate::DIGEST => came[crate::DIGEST] = came[crate::DIGEST] + 1,
+        crate::INPUT => came[crate::INPUT] = came[crate::INPUT] + 1,
+        crate::OUTPUT => came[crate::OUTPUT] = came[crate::OUTPUT] + 1,
+        _ => came[crate::MONTGOMERY_ROW] = came[crate::MONTGOMERY_ROW] + 1,
+    }
+    came
+}
+
+// Whether the command is a row after rows in the other form.
+fn mixed(came: [usize; crate::COUNT], code: usize) -> bool
+    ensures { λ r. ⌜ r ≡ mixed came code ⌝ }
+{
+    match code {
+        crate::ROW => came[crate::MONTGOMERY_ROW] != 0,
+        crate::MONTGOMERY_ROW => came[crate::ROW] != 0,
+        _ => false,
     }
 }
 
 fn missing(rows: usize, came: [usize; crate::COUNT]) -> bool
     ensures { λ r. ⌜ r ≡ missing rows came ⌝ }
 {
-    if came[crate::ROW] < rows {
+    if rows_in(came) < rows {
         return true;
     }
     if came[crate::SAMPLED] == 0 {
@@ -99,7 +165,7 @@ fn missing(rows: usize, came: [usize; crate::COUNT]) -> bool
 }
 
 fn out_of_place(rows: usize, came: [usize; crate::COUNT], code: usize, left: usize) -> bool
-    requires { ⌜ code < 10 ⌝ }
+    requires { ⌜ code < COMMANDS ⌝ }
     ensures { λ r. ⌜ r ≡ outOfPlace rows came code left ⌝ }
 {
     if came[crate::TRACE_ROWS] == 0 {
@@ -107,7 +173,10 @@ fn out_of_place(rows: usize, came: [usize; crate::COUNT], code: usize, left: usi
             return true;
         }
     }
-    if limit(rows, code) <= came[code] {
+    if limit(rows, code) <= count(came, code) {
+        return true;
+    }
+    if mixed(came, code) {
         return true;
     }
     if code != crate::END {
@@ -120,7 +189,7 @@ fn out_of_place(rows: usize, came: [usize; crate::COUNT], code: usize, left: usi
 }
 
 fn out_of_order(batch: &[u8], at: usize, code: usize, seen: Seen) -> bool
-    requires { ⌜ (code < 10) × (at + width code ≤ length (now batch)) ⌝ }
+    requires { ⌜ (code < COMMANDS) × (at + width code ≤ length (now batch)) ⌝ }
     ensures { λ r. ⌜ r ≡ outOfOrder seen code (drop at (now (batch .entry))) ⌝ }
 {
     let rank = rank(code);
@@ -134,7 +203,7 @@ fn out_of_order(batch: &[u8], at: usize, code: usize, seen: Seen) -> bool
 }
 
 fn wrong_row_count(batch: &[u8], at: usize, code: usize) -> bool
-    requires { ⌜ (code < 10) × (at + width code ≤ length (now batch)) ⌝ }
+    requires { ⌜ (code < COMMANDS) × (at + width code ≤ length (now batch)) ⌝ }
     ensures { λ r. ⌜ r ≡ wrongRowCount code (take (width code) (drop at (now (batch .entry)))) ⌝ }
 {
     if code != crate::TRACE_ROWS {
@@ -149,7 +218,7 @@ fn wrong_row_count(batch: &[u8], at: usize, code: usize) -> bool
 
 // What is wrong with a command, after those that were seen.
 pub fn judge(batch: &[u8], at: usize, code: usize, seen: Seen) -> Answer
-    requires { ⌜ (code < 10) × (at + width code ≤ length (now batch)) ⌝ }
+    requires { ⌜ (code < COMMANDS) × (at + width code ≤ length (now batch)) ⌝ }
     ensures { λ r. ⌜ r ≡ judged seen code (drop at (now (batch .entry))) ⌝ }
 {
     let width = width(code);
@@ -171,7 +240,7 @@ pub fn judge(batch: &[u8], at: usize, code: usize, seen: Seen) -> Answer
 
 // The rows that are announced after the command.
 pub fn announced(batch: &[u8], at: usize, code: usize, rows: usize) -> usize
-    requires { ⌜ (code < 10) × (at + width code ≤ length (now batch)) ⌝ }
+    requires { ⌜ (code < COMMANDS) × (at + width code ≤ length (now batch)) ⌝ }
     ensures { λ r. ⌜ r ≡ cond (eqb code TRACE-ROWS) (number (take (width code) (drop at (now (batch .entry))))) rows ⌝ }
 {
     if code == crate::TRACE_ROWS {

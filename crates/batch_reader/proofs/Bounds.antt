@@ -10,7 +10,7 @@ use borrow.Author.Tests.{eqb-true, eq-eqb, ne-eqb, leb-true, not-false}
 use Rattle.field_base.proofs.Below.{and-true}
 use Rattle.refusal.specs.declared.Answer.the-variants.{Done}
 use Rattle.batch_words.specs.Words.{number}
-use Rattle.batch_commands.specs.Format.{TRACE-ROWS, width, Command}
+use Rattle.batch_commands.specs.Format.{TRACE-ROWS, COMMANDS, width, Command}
 use Rattle.batch_commands.specs.Fault.{limit, wrongRowCount, fault}
 use Rattle.batch_reader.specs.Commands.{count, announced, seenIn}
 use Rattle.batch_reader.specs.Reading.{read, reading}
@@ -26,7 +26,7 @@ First (k ∷ ks) = k .code ≡ TRACE-ROWS
 pub record Bounded (ks : List Command) : Type 0 where
   first : First ks
   pub few-rows : announced ks ≤ 32
-  pub within : (code : ℕ) → code < 10 → count code ks ≤ limit (announced ks) code
+  pub within : (code : ℕ) → code < COMMANDS → count code ks ≤ limit (announced ks) code
 
 pub none-bounded : Bounded []
 unfolding count
@@ -105,9 +105,9 @@ one-at-most most [] i h = omega arith
 one-at-most most (n ∷ ns) zero h = h .0
 one-at-most most (n ∷ ns) (suc i) h = one-at-most most ns i (h .1)
 
-pub count-small : (ks : List Command) → Bounded ks → (code : ℕ) → code < 10 → count code ks ≤ 128
+pub count-small : (ks : List Command) → Bounded ks → (code : ℕ) → code < COMMANDS → count code ks ≤ 128
 count-small ks b code l =
     let few = b .few-rows in
-    let n = one-at-most 128 (1 ∷ 1 ∷ announced ks ∷ 128 ∷ 128 ∷ 128 ∷ 1 ∷ 1 ∷ 64 ∷ 64 ∷ []) code
-    (omega arith, (omega arith, (omega arith, (omega arith, (omega arith, (omega arith, (omega arith, (omega arith, (omega arith, (omega arith, tt)))))))))) in
+    let n = one-at-most 128 (1 ∷ 1 ∷ announced ks ∷ 128 ∷ 128 ∷ 128 ∷ 1 ∷ 1 ∷ 64 ∷ 64 ∷ announced ks ∷ []) code
+    (omega arith, (omega arith, (omega arith, (omega arith, (omega arith, (omega arith, (omega arith, (omega arith, (omega arith, (omega arith, (omega arith, tt))))))))))) in
     omega (arith, n, b .within code l)

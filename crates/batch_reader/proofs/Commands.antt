@@ -8,7 +8,7 @@ use native.Mathlib.Omega.{arith}
 use lib.Dec.{eqb}
 use lib.ListN.{length, getD, set, length-append}
 use borrow.Author.Tests.{eqb-true, eq-eqb, ne-eqb}
-use Rattle.batch_commands.specs.Format.{width, wordsIn, wordsFor, rank, key, Command}
+use Rattle.batch_commands.specs.Format.{COMMANDS, width, wordsIn, wordsFor, rank, key, Command}
 use Rattle.batch_reader.specs.Commands.{count, counts, contents, highestRank, lastKey}
 use Rattle.batch_commands.proofs.Tables.{from, map-at}
 use Rattle.batch_words.proofs.Bytes.{length-words}
@@ -21,6 +21,11 @@ count-append code (k ∷ ks) js = rw (count-append code ks js, add-assoc (cond (
 pub count-one : (code : ℕ) (ks : List Command) (k : Command) → count code (ks ++ (k ∷ [])) ≡ count code ks + cond (eqb (k .code) code) 1 0
 unfolding count
 count-one code ks k = count-append code ks (k ∷ []) ∙ rw add-zero
+
+-- one more than before it
+pub count-past : (code : ℕ) (before : List Command) (k : Command) (after : List Command) → k .code ≡ code → count code before < count code (before ++ k ∷ after)
+unfolding count
+count-past code before k after e = rw (count-append code before (k ∷ after), eq-eqb (k .code) code e) (omega arith)
 
 pub contents-append : (wanted : ℕ) (ks js : List Command) → contents wanted (ks ++ js) ≡ contents wanted ks ++ contents wanted js
 unfolding contents
@@ -52,13 +57,13 @@ module _ (f g : ℕ → ℕ) where
       let e : a + suc i ≡ suc a + i = omega arith in
       rw (h a (λ e. omega arith), e, map-but-one (suc a) n i (omega arith) (λ c m. h c (λ q. m (omega arith))))
 
-pub counts-one : (ks : List Command) (k : Command) → k .code < 10 → counts (ks ++ (k ∷ [])) ≡ set (counts ks) (k .code) (count (k .code) ks + 1)
+pub counts-one : (ks : List Command) (k : Command) → k .code < COMMANDS → counts (ks ++ (k ∷ [])) ≡ set (counts ks) (k .code) (count (k .code) ks + 1)
 counts-one ks k l =
-    map-but-one (λ c. count c ks) (λ c. count c (ks ++ (k ∷ []))) 0 10 (k .code) l (λ c h. count-one c ks k ∙ rw (ne-eqb (k .code) c (λ e. h (zero-add (k .code) ∙ e)), add-zero))
+    map-but-one (λ c. count c ks) (λ c. count c (ks ++ (k ∷ []))) 0 COMMANDS (k .code) l (λ c h. count-one c ks k ∙ rw (ne-eqb (k .code) c (λ e. h (zero-add (k .code) ∙ e)), add-zero))
     ∙ rw (zero-add, count-one (k .code) ks k, eq-eqb (k .code) (k .code) refl)
 
-pub count-at : (ks : List Command) (code : ℕ) → code < 10 → getD (counts ks) code 0 ≡ count code ks
-count-at ks code l = map-at (λ c. count c ks) 0 10 code l ∙ rw zero-add
+pub count-at : (ks : List Command) (code : ℕ) → code < COMMANDS → getD (counts ks) code 0 ≡ count code ks
+count-at ks code l = map-at (λ c. count c ks) 0 COMMANDS code l ∙ rw zero-add
 
 pub highest-one : (ks : List Command) (k : Command) → highestRank (ks ++ (k ∷ [])) ≡ max (highestRank ks) (rank (k .code))
 unfolding highestRank

@@ -4,15 +4,15 @@ use mathlib.Core.Bool.{Bool, true, false, cond}
 use mathlib.Core.List.{List, [], _∷_}
 use Prim.Native.Nat.{ℕ, _+_, _-_, _≤_, _<_}
 use native.Mathlib.Omega.{arith}
-use lib.Dec.{eqb, ltb}
+use lib.Dec.{eqb, leb, ltb}
 use lib.ListN.{length, drop}
-use borrow.Author.Tests.{ltb-false, eqb-false}
+use borrow.Author.Tests.{ltb-false, leb-false, eqb-false}
 use Rattle.refusal.specs.declared.Answer.{Answer}
 use Rattle.refusal.specs.declared.Answer.the-variants as answer
 use Rattle.refusal.specs.declared.Answer.the-variants.{Done}
 use Rattle.refusal.specs.declared.Refusal.the-variants.{UnknownCommand, BatchCutOff}
 use Rattle.batch_commands.specs.declared.Head.the-variants.{Unknown, CutOff, Whole}
-use Rattle.batch_commands.specs.Format.{END, width, Command}
+use Rattle.batch_commands.specs.Format.{END, COMMANDS, width, Command}
 use Rattle.batch_commands.specs.Fault.{judged, fault, headOf}
 use Rattle.batch_commands.proofs.Heads.{headBy}
 use Rattle.batch_reader.specs.declared.OpenAnswer.{OpenAnswer}
@@ -44,20 +44,20 @@ module _ (seen : Seen) where
   pub unknown-step : (bytes : List ℕ) → headOf bytes ≡ Unknown → stepOf seen bytes ≡ Stop (Refused UnknownCommand)
   unfolding fault
   unknown-step [] e = cc
-  unknown-step (code ∷ bytes) e = rw (unknown-by (ltb 9 code) (ltb (length bytes) (width code)) code e)
+  unknown-step (code ∷ bytes) e = rw (unknown-by (leb COMMANDS code) (ltb (length bytes) (width code)) code e)
 
   pub cut-off-step : (bytes : List ℕ) → headOf bytes ≡ CutOff → stepOf seen bytes ≡ Stop (Refused BatchCutOff)
   unfolding fault
   cut-off-step [] e = refl
-  cut-off-step (code ∷ bytes) e = let h = cut-off-by (ltb 9 code) (ltb (length bytes) (width code)) code e in rw (h .0, h .1)
+  cut-off-step (code ∷ bytes) e = let h = cut-off-by (leb COMMANDS code) (ltb (length bytes) (width code)) code e in rw (h .0, h .1)
 
   pub whole-step : (bytes : List ℕ) (k : ℕ) → headOf bytes ≡ Whole k
-      → (k < 10) × (1 + width k ≤ length bytes) × (stepOf seen bytes ≡ stepBy (judged seen k (drop 1 bytes)) k (seen .came))
+      → (k < COMMANDS) × (1 + width k ≤ length bytes) × (stepOf seen bytes ≡ stepBy (judged seen k (drop 1 bytes)) k (seen .came))
   unfolding fault
   whole-step [] k e = let z : _≡_ {A = ℕ} 0 1 = cc in (omega arith, omega arith, cc)
   whole-step (code ∷ bytes) k e =
-      let h = whole-by (ltb 9 code) (ltb (length bytes) (width code)) code k e in
-      let known = ltb-false 9 code (h .0) in
+      let h = whole-by (leb COMMANDS code) (ltb (length bytes) (width code)) code k e in
+      let known = leb-false COMMANDS code (h .0) in
       let whole = ltb-false (length bytes) (width code) (h .1) in
       rw (h .2) (omega arith, omega arith, rw (h .0, h .1))
 

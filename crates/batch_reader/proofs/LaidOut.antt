@@ -32,6 +32,7 @@ module _ (seen : Seen) (code : ℕ) (bytes others : List ℕ) (more : code ≡ E
         whole = whole;
         after-first = p .after-first;
         under = p .under;
+        unmixed = p .unmixed;
         at-end = rw (ne-eqb code END more);
         in-order = rw (sym k) (p .in-order);
         row-count = rw (sym same) (p .row-count);

@@ -4,8 +4,10 @@ pub mod Passing
 pub mod Faults
 pub mod Readings
 pub mod Ordered
+pub mod Forms
 pub mod Bounds
 pub mod Reached
 pub mod Calling
 pub mod LaidOut
 pub mod Sections
+pub mod Rows

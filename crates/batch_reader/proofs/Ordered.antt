@@ -84,6 +84,14 @@ module _ {A : Type 0} (P : A → Type 0) where
   every-map Q f [] h = tt
   every-map Q f (x ∷ xs) h = (f x (h .0), every-map Q f xs (h .1))
 
+pub every-both : (P Q : Command → Type 0) (ks : List Command) → Every P ks → Every Q ks → Every (λ k. P k × Q k) ks
+every-both P Q [] h g = tt
+every-both P Q (k ∷ ks) h g = ((h .0, g .0), every-both P Q ks (h .1) (g .1))
+
+pub every-at : (P : Command → Type 0) (before : List Command) (k : Command) (after : List Command) → Every P (before ++ k ∷ after) → P k
+every-at P [] k after h = h .0
+every-at P (j ∷ before) k after h = every-at P before k after (h .1)
+
 pub ranks-from : (r m s : ℕ) (ks : List Command) → s ≤ r → OrderedFrom r m ks → Every (λ k. s ≤ rank (k .code)) ks
 ranks-from r m s [] l h = tt
 ranks-from r m s (k ∷ ks) l h = (omega arith, ranks-from (rank (k .code)) (key (k .code) (k .operand)) s ks (omega arith) (h .1))

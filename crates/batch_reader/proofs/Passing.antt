@@ -12,14 +12,15 @@ use Rattle.refusal.specs.declared.Answer.the-variants.{Done}
 use Rattle.refusal.specs.declared.Refusal.the-variants.{UnknownCommand, BatchCutOff, CommandOutOfPlace, CommandOutOfOrder, RowCount, WordNotBelowP}
 use Rattle.refusal.proofs.Answers.{or-false, past}
 use Rattle.batch_commands.specs.declared.Seen.{Seen}
-use Rattle.batch_commands.specs.Format.{END, TRACE-ROWS, width, wordsIn}
-use Rattle.batch_commands.specs.Fault.{limit, missing, outOfPlace, outOfOrder, wrongRowCount, judged, fault}
+use Rattle.batch_commands.specs.Format.{END, TRACE-ROWS, COMMANDS, width, wordsIn}
+use Rattle.batch_commands.specs.Fault.{limit, mixed, missing, outOfPlace, outOfOrder, wrongRowCount, judged, fault}
 
 pub record Passes (seen : Seen) (code : ℕ) (bytes : List ℕ) : Type 0 where
-  pub known : code < 10
+  pub known : code < COMMANDS
   pub whole : width code ≤ length bytes
   pub after-first : (eqb (getD (seen .came) TRACE-ROWS 0) 0 && not (eqb code TRACE-ROWS)) ≡ false
   pub under : getD (seen .came) code 0 < limit (seen .rows) code
+  pub unmixed : mixed (seen .came) code ≡ false
   pub at-end : (eqb code END && (missing (seen .rows) (seen .came) || not (eqb (length bytes - width code) 0))) ≡ false
   pub in-order : outOfOrder seen code bytes ≡ false
   pub row-count : wrongRowCount code (take (width code) bytes) ≡ false
@@ -29,7 +30,7 @@ module _ (seen : Seen) (code : ℕ) (bytes : List ℕ) where
   pub passing : fault seen code bytes ≡ Done → Passes seen code bytes
   unfolding fault judged
   passing e =
-      let a = past (ltb 9 code) UnknownCommand _ e in
+      let a = past (leb COMMANDS code) UnknownCommand _ e in
       let b = past (ltb (length bytes) (width code)) BatchCutOff _ (a .1) in
       let c = past (outOfPlace (seen .rows) (seen .came) code (length bytes - width code)) CommandOutOfPlace _ (b .1) in
       let d = past (outOfOrder seen code bytes) CommandOutOfOrder _ (c .1) in
@@ -37,14 +38,15 @@ module _ (seen : Seen) (code : ℕ) (bytes : List ℕ) where
       let g = past (not (allBelow (wordsIn code bytes))) WordNotBelowP _ (f .1) in
       let first = eqb (getD (seen .came) TRACE-ROWS 0) 0 && not (eqb code TRACE-ROWS) in
       let over = leb (limit (seen .rows) code) (getD (seen .came) code 0) in
-      let p = or-false (first || over) (eqb code END && (missing (seen .rows) (seen .came) || not (eqb (length bytes - width code) 0))) (c .0) in
-      let q = or-false first over (p .0) in
-      let known = ltb-false 9 code (a .0) in
+      let p = or-false (first || over || mixed (seen .came) code) (eqb code END && (missing (seen .rows) (seen .came) || not (eqb (length bytes - width code) 0))) (c .0) in
+      let o = or-false (first || over) (mixed (seen .came) code) (p .0) in
+      let q = or-false first over (o .0) in
       record {
-        known = omega arith;
+        known = leb-false COMMANDS code (a .0);
         whole = ltb-false (length bytes) (width code) (b .0);
         after-first = q .0;
         under = leb-false (limit (seen .rows) code) (getD (seen .came) code 0) (q .1);
+        unmixed = o .1;
         at-end = p .1;
         in-order = d .0;
         row-count = f .0;
@@ -54,5 +56,4 @@ module _ (seen : Seen) (code : ℕ) (bytes : List ℕ) where
   pub no-fault : Passes seen code bytes → fault seen code bytes ≡ Done
   unfolding fault judged
   no-fault p =
-      let known = p .known in
-      rw (le-ltb 9 code (omega arith), le-ltb (length bytes) (width code) (p .whole), p .after-first, lt-leb (limit (seen .rows) code) (getD (seen .came) code 0) (p .under), p .at-end, p .in-order, p .row-count, p .below)
+      rw (lt-leb COMMANDS code (p .known), le-ltb (length bytes) (width code) (p .whole), p .after-first, lt-leb (limit (seen .rows) code) (getD (seen .came) code 0) (p .under), p .unmixed, p .at-end, p .in-order, p .row-count, p .below)

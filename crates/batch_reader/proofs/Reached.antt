@@ -7,7 +7,7 @@ use native.Mathlib.Omega.{arith}
 use lib.ListN.{length, drop, getD, length-drop}
 use lib.Seq.{drop-cons}
 use Rattle.refusal.specs.declared.Answer.the-variants.{Done}
-use Rattle.batch_commands.specs.Format.{END, width, Command, rank, key}
+use Rattle.batch_commands.specs.Format.{END, COMMANDS, width, Command, rank, key}
 use Rattle.batch_commands.specs.Fault.{fault}
 use Rattle.batch_commands.proofs.Tables.{key-within}
 use Rattle.batch_reader.specs.declared.OpenAnswer.{OpenAnswer}
@@ -70,7 +70,7 @@ module _ (batch : List ℕ) (seen : Seen) (at : ℕ) (r : Reached batch seen at)
     passed : Passes (seenIn (r .before)) code bytes
     passed = passing (seenIn (r .before)) code bytes (on .0)
 
-    pub known : k < 10
+    pub known : k < COMMANDS
     known = rw (sym (on .1)) (passed .known)
 
     pub whole : at + 1 + width k ≤ length batch

@@ -1,5 +1,5 @@
 -- The commands of one kind stand together: a section, which begins behind the commands of a lower rank.
-use mathlib.Core.Path.{_≡_, refl, sym, ap, _∙_}
+use mathlib.Core.Path.{_≡_, refl, sym, ap, subst, _∙_}
 use mathlib.Core.Bool.{Bool, true, false, cond, _&&_}
 use mathlib.Core.List.{List, [], _∷_, _++_, append-assoc, append-nil}
 use Prim.Native.Nat.{ℕ, _+_, _*_, _/_, _≤_, _<_}
@@ -8,19 +8,29 @@ use native.Mathlib.Omega.{arith}
 use lib.Dec.{eqb, ltb, lit<}
 use lib.ListN.{length, take, drop, getD, length-append, length-drop}
 use lib.Seq.{getD-drop, drop-drop, drop-append-seam, take-at, take-append-seam, drop-append-add}
-use borrow.Author.Tests.{lt-ltb, le-ltb, eq-eqb, ne-eqb, eqb-false}
+use borrow.Author.Tests.{lt-ltb, le-ltb, eq-eqb, ne-eqb, eqb-true, eqb-false}
 use Rattle.batch_words.proofs.Bytes.{length-words, words-within}
-use Rattle.batch_commands.specs.Format.{END, TRACE-ROWS, DIGEST, width, wordsIn, rank, key, Command, laidOut}
-use Rattle.batch_commands.proofs.Tables.{rank-injective, of-each}
+use Rattle.field_montgomery.specs.declared.Form.{Form}
+use Rattle.field_montgomery.specs.declared.Form.the-variants.{Plain, Montgomery}
+use Rattle.field_montgomery.specs.Form.{plain}
+use Rattle.field_montgomery.proofs.Many.{length-plain, plain-append}
+use Rattle.batch_commands.specs.Format.{END, TRACE-ROWS, DIGEST, MONTGOMERY-ROW, COMMANDS, width, wordsIn, rank, key, Command, laidOut}
+use Rattle.batch_commands.specs.Form.{OfForm}
+use Rattle.batch_commands.proofs.Tables.{rank-injective, of-test}
 use Rattle.batch_commands.proofs.Laid.{laid-append}
-use Rattle.batch_reader.specs.Commands.{count, counts, contents}
+use Rattle.batch_reader.specs.Commands.{count, counts, contents, formOf}
 use Rattle.batch_reader.specs.Reading.{read, reading, commandsOf}
-use Rattle.batch_reader.specs.Answers.{brought, written}
+use Rattle.batch_reader.specs.Answers.{written}
 use Rattle.batch_reader.specs.Steps.{bytesBelow}
-use Rattle.batch_reader.proofs.Commands.{count-at, contents-append}
+use Rattle.batch_reader.proofs.Commands.{count-at, count-past, contents-append, length-contents}
 use Rattle.batch_reader.proofs.Bounds.{bounded}
-use Rattle.batch_reader.proofs.Ordered.{Every, every-append, every-map, ordered, ordered-parts, ranks-from, split}
+use Rattle.batch_reader.proofs.Ordered.{Every, every-append, every-map, every-at, ordered, ordered-parts, ranks-from, split}
+use Rattle.batch_reader.proofs.Forms.{of-form}
 use Rattle.batch_reader.proofs.LaidOut.{Next, Faultless, faultless-parts, Laid, laid}
+
+nothing-plain : (form : Form) → [] ≡ plain form []
+nothing-plain Plain = refl
+nothing-plain Montgomery = refl
 
 -- words behind words
 pub written-on : (cs ws slice₀ slice : List ℕ) (to : ℕ) → slice ≡ written cs slice₀ → to ≡ length cs → take to slice ++ ws ++ drop (to + length ws) slice ≡ written (cs ++ ws) slice₀
@@ -60,8 +70,8 @@ one-brought wanted k e = rw (eq-eqb (k .code) wanted e, append-nil, e)
 lt-of-ne : (a b : ℕ) → a ≤ b → (a ≡ b → ⊥) → a + 1 ≤ b
 lt-of-ne a b l n = omega arith
 
--- a slice that begins with what the commands of the wanted kind up to a place have brought
-pub record Section (batch : List ℕ) (wanted : ℕ) (slice₀ slice : List ℕ) (to at : ℕ) : Type 0 where
+-- a slice that begins with what the commands of the wanted kind up to a place have brought, as plain words
+pub record Section (batch : List ℕ) (wanted : ℕ) (form : Form) (slice₀ slice : List ℕ) (to at : ℕ) : Type 0 where
   before : List Command
   after : List Command
   parts : commandsOf (reading batch) ≡ before ++ after
@@ -69,18 +79,18 @@ pub record Section (batch : List ℕ) (wanted : ℕ) (slice₀ slice : List ℕ)
   low : Every (λ k. rank (k .code) < rank wanted + 1) before
   high : Every (λ k. rank wanted ≤ rank (k .code)) after
   pub same-length : length slice ≡ length slice₀
-  filled : slice ≡ written (contents wanted before) slice₀
+  filled : slice ≡ written (plain form (contents wanted before)) slice₀
   reached : to ≡ length (contents wanted before)
 
-module _ (batch : List ℕ) (wanted : ℕ) (opened : reading batch ≡ read (commandsOf (reading batch))) (some : 0 < wanted) (known : wanted < 10) where
+module _ (batch : List ℕ) (wanted : ℕ) (opened : reading batch ≡ read (commandsOf (reading batch))) (some : 0 < wanted) (known : wanted < COMMANDS) where
   abbrev ks : List Command
   ks = commandsOf (reading batch)
 
   is-laid : Laid batch ks
   is-laid = laid batch ks opened
 
-  pub begins : (slice : List ℕ) (at : ℕ) → at ≡ bytesBelow (rank wanted) ks → Section batch wanted slice slice 0 at
-  begins slice at e =
+  pub begins : (form : Form) (slice : List ℕ) (at : ℕ) → at ≡ bytesBelow (rank wanted) ks → Section batch wanted form slice slice 0 at
+  begins form slice at e =
       let s = split (rank wanted) 0 0 ks (ordered batch ks opened) in
       let whole = all-whole [] (s .low) (faultless-parts [] (s .low) (s .high) (rw (s .parts) at (is-laid .faultless)) .0) in
       let none = none-brought wanted (s .low) (every-map _ _ (λ k l q. let z = ap rank q in omega arith) (s .low) (s .low-ranks)) in
@@ -92,7 +102,7 @@ module _ (batch : List ℕ) (wanted : ℕ) (opened : reading batch ≡ read (com
         low = every-map _ _ (λ k l. omega arith) (s .low) (s .low-ranks);
         high = s .high-ranks;
         same-length = refl;
-        filled = rw none;
+        filled = rw none (ap (λ l. written l slice) (nothing-plain form));
         reached = rw none;
       }
 
@@ -102,7 +112,7 @@ module _ (batch : List ℕ) (wanted : ℕ) (opened : reading batch ≡ read (com
       let b : batch ≡ laidOut before ++ (laidOut after ++ (END ∷ [])) = is-laid .is ∙ rw (e, laid-append before after, append-assoc) in
       ap (drop (length (laidOut before))) b ∙ drop-append-seam (laidOut before) (laidOut after ++ (END ∷ []))
 
-  module _ (slice₀ slice : List ℕ) (to at : ℕ) (s : Section batch wanted slice₀ slice to at) where
+  module _ (form : Form) (slice₀ slice : List ℕ) (to at : ℕ) (s : Section batch wanted form slice₀ slice to at) where
     there : (after : List Command) → s .after ≡ after → drop at batch ≡ laidOut after ++ (END ∷ [])
     there after e = rw (s .place, sym e) (bytes-there (s .before) (s .after) (s .parts))
 
@@ -154,8 +164,7 @@ module _ (batch : List ℕ) (wanted : ℕ) (opened : reading batch ≡ read (com
       brought-on : contents wanted (s .before ++ (here .k ∷ [])) ≡ contents wanted (s .before) ++ wordsIn wanted (drop (at + 1) batch)
       brought-on = contents-append wanted (s .before) (here .k ∷ []) ∙ ap (_++_ (contents wanted (s .before))) (sym brought-there)
 
-      pub room : length (brought wanted batch) ≤ length slice₀ → to + width wanted / 8 ≤ length slice
-      unfolding brought
+      pub room : length (contents wanted ks) ≤ length slice₀ → to + width wanted / 8 ≤ length slice
       room h =
           let e = ap (contents wanted) parts-on ∙ contents-append wanted (s .before ++ (here .k ∷ [])) (here .rest) ∙ ap (λ l. l ++ contents wanted (here .rest)) brought-on in
           let n = ap length e ∙ length-append (contents wanted (s .before) ++ wordsIn wanted (drop (at + 1) batch)) (contents wanted (here .rest)) in
@@ -165,8 +174,8 @@ module _ (batch : List ℕ) (wanted : ℕ) (opened : reading batch ≡ read (com
       unfolding laidOut
       laid-one = let n = length-append (here .k .operand) [] in let w = k-whole in omega arith
 
-      pub goes-on : (slice′ : List ℕ) → length slice′ ≡ length slice → slice′ ≡ take to slice ++ wordsIn wanted (drop (at + 1) batch) ++ drop (to + width wanted / 8) slice
-          → Section batch wanted slice₀ slice′ (to + width wanted / 8) (at + 1 + width wanted)
+      pub goes-on : (slice′ : List ℕ) → length slice′ ≡ length slice → slice′ ≡ take to slice ++ plain form (wordsIn wanted (drop (at + 1) batch)) ++ drop (to + width wanted / 8) slice
+          → Section batch wanted form slice₀ slice′ (to + width wanted / 8) (at + 1 + width wanted)
       goes-on slice′ l e =
           let ws = wordsIn wanted (drop (at + 1) batch) in
           let n = length-words (width wanted / 8) (drop (at + 1) batch) in
@@ -178,50 +187,81 @@ module _ (batch : List ℕ) (wanted : ℕ) (opened : reading batch ≡ read (com
             low = every-append _ (s .before) (here .k ∷ []) (s .low) (let z = ap rank (here .of-kind) in omega arith, tt);
             high = rw (here .is) at (s .high) .1;
             same-length = l ∙ s .same-length;
-            filled = e ∙ ap (λ m. take to slice ++ ws ++ drop (to + m) slice) (sym n) ∙ written-on (contents wanted (s .before)) ws slice₀ slice to (s .filled) (s .reached) ∙ rw brought-on;
+            filled = e ∙ ap (λ m. take to slice ++ plain form ws ++ drop (to + m) slice) (sym (length-plain form ws ∙ n))
+                ∙ written-on (plain form (contents wanted (s .before))) (plain form ws) slice₀ slice to (s .filled) (s .reached ∙ sym (length-plain form (contents wanted (s .before))))
+                ∙ ap (λ l. written l slice₀) (sym (plain-append form (contents wanted (s .before)) ws) ∙ ap (plain form) (sym brought-on));
             reached = ap (λ m. m + width wanted / 8) (s .reached) ∙ sym (ap length brought-on ∙ length-append (contents wanted (s .before)) ws ∙ ap (_+_ (length (contents wanted (s .before)))) n);
           }
 
     -- no command of the kind is left
-    past-by : (after : List Command) → s .after ≡ after → (getD batch at 0 ≡ wanted → ⊥) → Every (λ k. rank wanted + 1 ≤ rank (k .code)) after
+    past-by : OfForm (formOf ks) wanted → (after : List Command) → s .after ≡ after → (getD batch at 0 ≡ wanted → ⊥) → Every (λ k. rank wanted + 1 ≤ rank (k .code)) after
     unfolding laidOut
-    past-by [] e q = tt
-    past-by (k ∷ rest) e q =
+    past-by used [] e q = tt
+    past-by used (k ∷ rest) e q =
         let code : getD batch at 0 ≡ k .code = code-there (k .code) (k .operand ++ laidOut rest ++ (END ∷ [])) (there (k ∷ rest) e ∙ rw append-assoc) in
         let ps : ks ≡ s .before ++ (k ∷ rest) = rw e at (s .parts) in
         let next = faultless-parts [] (s .before) (k ∷ rest) (rw ps at (is-laid .faultless)) .1 .0 in
         let from = rw e at (s .high) .0 in
-        let other : rank wanted ≡ rank (k .code) → ⊥ = λ z. q (code ∙ sym (rank-injective wanted (k .code) known (next .passes .known) z)) in
+        let in-form = every-at _ (s .before) k rest (subst (Every (λ j. OfForm (formOf ks) (j .code))) ps (of-form batch ks opened)) in
+        let other : rank wanted ≡ rank (k .code) → ⊥ = λ z. q (code ∙ sym (rank-injective (formOf ks) wanted (k .code) known (next .passes .known) used in-form z)) in
         let more : rank wanted + 1 ≤ rank (k .code) = lt-of-ne (rank wanted) (rank (k .code)) from other in
         let o = ordered-parts 0 0 (s .before) (k ∷ rest) (rw ps at (ordered batch ks opened)) .1 .1 in
         (more, ranks-from (rank (k .code)) (key (k .code) (k .operand)) (rank wanted + 1) rest more o)
 
-    pub ends : (getD batch at 0 ≡ wanted → ⊥) → (at ≡ bytesBelow (rank wanted + 1) ks) × (slice ≡ written (brought wanted batch) slice₀)
-    unfolding brought
-    ends q =
-        let past = past-by (s .after) refl q in
+    pub ends : OfForm (formOf ks) wanted → (getD batch at 0 ≡ wanted → ⊥) → (at ≡ bytesBelow (rank wanted + 1) ks) × (slice ≡ written (plain form (contents wanted ks)) slice₀)
+    ends used q =
+        let past = past-by used (s .after) refl q in
         let whole = all-whole [] (s .before) (faultless-parts [] (s .before) (s .after) (rw (s .parts) at (is-laid .faultless)) .0) in
         let none = none-brought wanted (s .after) (every-map _ _ (λ k l z. let r = ap rank z in omega arith) (s .after) past) in
         let bytes : bytesBelow (rank wanted + 1) ks ≡ length (laidOut (s .before)) = ap (bytesBelow (rank wanted + 1)) (s .parts) ∙ below-append (rank wanted + 1) (s .before) (s .after) ∙ rw (below-none (rank wanted + 1) (s .after) past, add-zero) (below-all (rank wanted + 1) (s .before) whole (s .low)) in
         let all : contents wanted ks ≡ contents wanted (s .before) = ap (contents wanted) (s .parts) ∙ contents-append wanted (s .before) (s .after) ∙ rw (none, append-nil) in
-        (s .place ∙ sym bytes, s .filled ∙ ap (λ l. written l slice₀) (sym all))
+        (s .place ∙ sym bytes, s .filled ∙ ap (λ l. written (plain form l) slice₀) (sym all))
 
     pub not-at-end : length batch ≤ at → ⊥
     not-at-end h =
         let n = ap length (there (s .after) refl) ∙ length-append (laidOut (s .after)) (END ∷ []) in
         omega (arith, n, length-drop at batch)
 
--- 01, which has five bytes, stands first and once
-abbrev InFront : ℕ → Type 0
-InFront code = cond (ltb (rank code) (rank DIGEST)) (1 + width code) 0 ≡ cond (eqb code TRACE-ROWS) 1 0 * 5
+-- the rows' first byte says their form
+module _ (batch : List ℕ) (opened : reading batch ≡ read (commandsOf (reading batch))) (at : ℕ) (place : at ≡ bytesBelow (rank MONTGOMERY-ROW) (commandsOf (reading batch))) where
+  abbrev all : List Command
+  all = commandsOf (reading batch)
 
-in-front : (ks : List Command) → Every (λ k. k .code < 10) ks → bytesBelow (rank DIGEST) ks ≡ count TRACE-ROWS ks * 5
+  abbrev section : Section batch MONTGOMERY-ROW Plain [] [] 0 at
+  section = begins batch MONTGOMERY-ROW opened (lit< tt) (lit< tt) Plain [] at place
+
+  pub rows-there : length batch ≤ at → ⊥
+  rows-there = not-at-end batch MONTGOMERY-ROW opened (lit< tt) (lit< tt) Plain [] [] 0 at section
+
+  form-by : (none : Bool) → eqb (count MONTGOMERY-ROW all) 0 ≡ none → (getD batch at 0 ≡ MONTGOMERY-ROW → ⊥) → cond none Plain Montgomery ≡ Plain
+  form-by true e q = refl
+  form-by false e q =
+      let is : formOf all ≡ Montgomery = rw e in
+      let done = ends batch MONTGOMERY-ROW opened (lit< tt) (lit< tt) Plain [] [] 0 at section (rw is (λ z. omega arith)) q in
+      let none = ap length (done .1) ∙ length-append (contents MONTGOMERY-ROW all) (drop (length (contents MONTGOMERY-ROW all)) []) in
+      absurd (eqb-false (count MONTGOMERY-ROW all) 0 e (omega (arith, none, length-contents MONTGOMERY-ROW all)))
+
+  pub plain-there : (getD batch at 0 ≡ MONTGOMERY-ROW → ⊥) → formOf all ≡ Plain
+  plain-there q = form-by (eqb (count MONTGOMERY-ROW all) 0) refl q
+
+  pub montgomery-there : getD batch at 0 ≡ MONTGOMERY-ROW → formOf all ≡ Montgomery
+  montgomery-there q =
+      let h = here batch MONTGOMERY-ROW opened (lit< tt) (lit< tt) Plain [] [] 0 at section q in
+      let some = count-past MONTGOMERY-ROW (section .before) (h .k) (h .rest) (h .of-kind) in
+      let parts : all ≡ section .before ++ (h .k ∷ h .rest) = section .parts ∙ ap (_++_ (section .before)) (h .is) in
+      rw (ne-eqb (count MONTGOMERY-ROW all) 0 (λ z. omega (arith, some, ap (count MONTGOMERY-ROW) parts)))
+
+-- 01, which has five bytes, stands first and once
+abbrev inFront : ℕ → ℕ
+inFront code = cond (ltb (rank code) (rank DIGEST)) (1 + width code) 0
+
+in-front : (ks : List Command) → Every (λ k. k .code < COMMANDS) ks → bytesBelow (rank DIGEST) ks ≡ count TRACE-ROWS ks * 5
 unfolding bytesBelow count
 in-front [] h = omega arith
 in-front (k ∷ ks) h =
-    rw (of-each InFront (refl, (refl, (refl, (refl, (refl, (refl, (refl, (refl, (refl, (refl, tt)))))))))) (k .code) (h .0), in-front ks (h .1), add-mul)
+    rw (eqb-true (inFront (k .code)) (cond (eqb (k .code) TRACE-ROWS) 1 0 * 5) (of-test (λ code. eqb (inFront code) (cond (eqb code TRACE-ROWS) 1 0 * 5)) refl (k .code) (h .0)), in-front ks (h .1), add-mul)
 
-all-known : (before ks : List Command) → Faultless before ks → Every (λ k. k .code < 10) ks
+all-known : (before ks : List Command) → Faultless before ks → Every (λ k. k .code < COMMANDS) ks
 all-known before [] h = tt
 all-known before (k ∷ ks) h = (h .0 .passes .known, all-known (before ++ (k ∷ [])) ks (h .1))
 

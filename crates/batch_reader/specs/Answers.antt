@@ -5,15 +5,16 @@ use lib.ListN.{length, drop, getD}
 use Rattle.batch_reader.specs.declared.Counts.{Counts}
 use Rattle.batch_reader.specs.declared.OpenAnswer.{OpenAnswer}
 use Rattle.batch_reader.specs.declared.OpenAnswer.the-variants.{Opened, Refused}
-use Rattle.batch_commands.specs.Format.{ROW, OP-STACK, RAM, JUMP-STACK, INPUT, OUTPUT}
-use Rattle.batch_reader.specs.Commands.{counts, contents}
+use Rattle.batch_commands.specs.Format.{OP-STACK, RAM, JUMP-STACK, INPUT, OUTPUT}
+use Rattle.batch_commands.specs.Fault.{rowsIn}
+use Rattle.batch_reader.specs.Commands.{count, counts, contents, sliceFrom}
 use Rattle.batch_reader.specs.Reading.{Reading, read, refused, reading, commandsOf}
 
 -- "six counts: rows, op stack, RAM, jump stack, input, output", where each command came as often as `came` says
 abbrev pub countsIn : List ℕ → Counts
 countsIn came =
     record {
-      rows = getD came ROW 0;
+      rows = rowsIn came;
       «op_stack» = getD came OP-STACK 0;
       ram = getD came RAM 0;
       «jump_stack» = getD came JUMP-STACK 0;
@@ -27,8 +28,8 @@ answerOf (refused refusal) = Refused refusal
 
 -- what the batch brings for one of the slices
 unfoldable pub brought : ℕ → List ℕ → List ℕ
-unfolding contents reading
-brought code batch = contents code (commandsOf (reading batch))
+unfolding contents count reading
+brought code batch = sliceFrom code (commandsOf (reading batch))
 
 -- a slice with words from its start on; "Slice words past the counts stay."
 abbrev pub written : List ℕ → List ℕ → List ℕ

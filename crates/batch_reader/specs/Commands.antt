@@ -5,7 +5,11 @@ use Prim.Native.Nat.{ℕ, _+_, max}
 use lib.Dec.{eqb}
 use Rattle.batch_words.specs.Words.{number, words}
 use Rattle.batch_commands.specs.declared.Seen.{Seen}
-use Rattle.batch_commands.specs.Format.{rank, key, wordsFor, Command}
+use Rattle.field_montgomery.specs.declared.Form.{Form}
+use Rattle.batch_commands.specs.Format.{ROW, rank, key, wordsFor, Command}
+use Rattle.field_montgomery.specs.Form.{plain}
+use Rattle.batch_commands.specs.Form.{rowCommand}
+use Rattle.batch_commands.specs.Fault.{formIn}
 
 -- how often a command stands there
 unfoldable pub count : ℕ → List Command → ℕ
@@ -14,13 +18,21 @@ count code (command ∷ commands) = cond (eqb (command .code) code) 1 0 + count 
 
 -- how often each, by its byte
 abbrev pub counts : List Command → List ℕ
-counts commands = map (λ code. count code commands) (0 ∷ 1 ∷ 2 ∷ 3 ∷ 4 ∷ 5 ∷ 6 ∷ 7 ∷ 8 ∷ 9 ∷ [])
+counts commands = map (λ code. count code commands) (0 ∷ 1 ∷ 2 ∷ 3 ∷ 4 ∷ 5 ∷ 6 ∷ 7 ∷ 8 ∷ 9 ∷ 10 ∷ [])
 
 -- the words that the commands of one kind bring, in their order
 unfoldable pub contents : ℕ → List Command → List ℕ
 unfolding words
 contents wanted [] = []
 contents wanted (command ∷ commands) = wordsFor wanted (command .code) (command .operand) ++ contents wanted commands
+
+-- the form of the rows
+abbrev pub formOf : List Command → Form
+formOf commands = formIn (counts commands)
+
+-- what the commands bring for one of the slices, known by its command; for the trace, 02, the rows' words: "Opening yields plain words."
+abbrev pub sliceFrom : ℕ → List Command → List ℕ
+sliceFrom code commands = cond (eqb code ROW) (plain (formOf commands) (contents (rowCommand (formOf commands)) commands)) (contents code commands)
 
 -- the rows that 01 announces; it stands first
 abbrev pub announced : List Command → ℕ

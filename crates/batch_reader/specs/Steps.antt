@@ -8,7 +8,7 @@ use Rattle.refusal.specs.declared.Answer.{Answer}
 use Rattle.refusal.specs.declared.Answer.the-variants as answer
 use Rattle.refusal.specs.declared.Refusal.the-variants.{BatchCutOff}
 use Rattle.batch_words.specs.Words.{number}
-use Rattle.batch_commands.specs.Format.{END, TRACE-ROWS, width, rank, key, Command}
+use Rattle.batch_commands.specs.Format.{END, TRACE-ROWS, COMMANDS, width, rank, key, Command}
 use Rattle.batch_commands.specs.declared.Seen.{Seen}
 use Rattle.batch_commands.specs.Fault.{fault}
 use Rattle.batch_reader.specs.declared.OpenAnswer.the-variants.{Opened, Refused}
@@ -17,7 +17,7 @@ use Rattle.batch_reader.specs.declared.Step.the-variants.{Stop, Next}
 use Rattle.batch_reader.specs.Answers.{countsIn}
 
 abbrev pub seenNothing : Seen
-seenNothing = record { rows = 0; came = replicate 10 0; rank = 0; key = 0 }
+seenNothing = record { rows = 0; came = replicate COMMANDS 0; rank = 0; key = 0 }
 
 abbrev pub seenPast : Seen → ℕ → List ℕ → Seen
 seenPast seen code bytes =

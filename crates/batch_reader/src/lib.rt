@@ -3,15 +3,17 @@ use crate::opener::Opener;
 use batch_commands::Head;
 use batch_commands::Seen;
 use batch_commands::unchecked::announced;
+use batch_commands::unchecked::counted;
 use batch_commands::unchecked::judge;
 use batch_commands::unchecked::key_at;
 use batch_commands::unchecked::rank;
+use batch_commands::unchecked::rows_in;
 use refusal::Answer;
 use refusal::Refusal;
 ghost use mathlib.Core.Path.{_≡_};
 ghost use Prim.Native.Nat.{_+_, _<_, _≤_};
 ghost use lib.ListN.{length, drop, getD};
-ghost use Rattle.batch_commands.specs.Format.{width};
+ghost use Rattle.batch_commands.specs.Format.{COMMANDS, width};
 ghost use Rattle.batch_commands.specs.Fault.{headOf};
 ghost use Rattle.batch_reader.specs.Reading.{reading};
 ghost use Rattle.batch_reader.specs.Answers.{countsIn, answerOf};
@@ -56,7 +58,7 @@ fn counts_in(came: [usize; batch_commands::COUNT]) -> Counts
     ensures { λ r. ⌜ r ≡ countsIn came ⌝ }
 {
     Counts {
-        rows: came[batch_commands::ROW],
+        rows: rows_in(came),
         op_stack: came[batch_commands::OP_STACK],
         ram: came[batch_commands::RAM],
         jump_stack: came[batch_commands::JUMP_STACK],
@@ -90,11 +92,11 @@ fn step_at(head: Head, batch: &[u8], at: usize, seen: Seen) -> Step
 
 // With the command at a place too.
 fn seen_past(batch: &[u8], at: usize, code: usize, seen: Seen) -> Seen
-    requires { ⌜ (code < 10) × (at + 1 + width code ≤ length (now batch)) × (getD (seen .came) code 0 ≤ 128) ⌝ }
+    requires { ⌜ (code < COMMANDS) × (at + 1 + width code ≤ length (now batch)) × (getD (seen .came) code 0 ≤ 128) ⌝ }
     ensures { λ r. ⌜ r ≡ seenPast seen code (drop (at + 1) (now (batch .entry))) ⌝ }
 {
-    let mut came = seen.came;
-    came[code] = came[code] + 1;
+    let before = seen.came;
+    let came = counted(before, code);
     Seen {
         rows: announced(batch, at + 1, code, seen.rows),
         came,

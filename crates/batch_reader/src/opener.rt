@@ -4,7 +4,7 @@ use batch_commands::unchecked::width;
 ghost use mathlib.Core.Path.{_≡_};
 ghost use Prim.Native.Nat.{_+_, _<_, _≤_, _^_};
 ghost use lib.ListN.{length, drop};
-ghost use Rattle.batch_commands.specs.Format.{width};
+ghost use Rattle.batch_commands.specs.Format.{COMMANDS, width};
 ghost use Rattle.batch_commands.specs.Fault.{headOf};
 
 pub(crate) struct Opener<'a> {
@@ -15,7 +15,7 @@ pub(crate) struct Opener<'a> {
 
 // The place behind the command that stands at a place.
 fn place_past(at: usize, code: usize) -> usize
-    requires { ⌜ (code < 10) × (at + 1 + width code < 2 ^ 64) ⌝ }
+    requires { ⌜ (code < COMMANDS) × (at + 1 + width code < 2 ^ 64) ⌝ }
     ensures { λ r. ⌜ r ≡ at + 1 + width code ⌝ }
 {
     at + 1 + width(code)
@@ -38,7 +38,7 @@ impl<'a> Opener<'a> {
 
     // The command that stands there has been read too.
     pub(crate) fn past(self, code: usize) -> Opener<'a>
-        requires { ⌜ (code < 10) × (self .at + 1 + width code ≤ length (now (self .batch))) ⌝ }
+        requires { ⌜ (code < COMMANDS) × (self .at + 1 + width code ≤ length (now (self .batch))) ⌝ }
         ensures { λ r. ⌜ (r .batch ≡ self .entry .batch) × (r .at ≡ self .entry .at + 1 + width code) ⌝ }
     {
         Opener {

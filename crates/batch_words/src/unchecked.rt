@@ -1,9 +1,13 @@
 // At a place of a batch; the caller proves that the batch reaches that far.
+use field_montgomery::Form;
+use field_montgomery::unchecked::plain_word;
+use field_montgomery::unchecked::word_in;
 ghost use mathlib.Core.Path.{_≡_};
 ghost use mathlib.Core.List.{[], _∷_, _++_};
 ghost use Prim.Native.Nat.{_+_, _*_, _≤_};
 ghost use lib.ListN.{length, take, drop};
 ghost use Rattle.field_base.specs.Words.{allBelow};
+ghost use Rattle.field_montgomery.specs.Form.{plain, inForm};
 ghost use Rattle.batch_words.specs.Words.{number, words, littleEndian, bytesOf};
 ghost use Rattle.batch_words.specs.Pasted.{pasted};
 
@@ -46,15 +50,15 @@ pub fn words_below(batch: &[u8], at: usize, n: usize) -> bool
     true
 }
 
-// The n words from there on go into the slice at `to`.
-pub fn put_words(batch: &[u8], at: usize, n: usize, slice: &mut [u64], to: usize)
+// The n words from there on, which are in the form, go into the slice at `to` as plain ones.
+pub fn put_words(batch: &[u8], at: usize, n: usize, form: Form, slice: &mut [u64], to: usize)
     requires { ⌜ at + 8 * n ≤ length (now batch) ⌝ }
     requires { ⌜ to + n ≤ length (now slice) ⌝ }
-    ensures { λ r. ⌜ now (slice .exit) ≡ take to (now (slice .entry)) ++ words n (drop at (now (batch .entry))) ++ drop (to + n) (now (slice .entry)) ⌝ }
+    ensures { λ r. ⌜ now (slice .exit) ≡ take to (now (slice .entry)) ++ plain form (words n (drop at (now (batch .entry)))) ++ drop (to + n) (now (slice .entry)) ⌝ }
 {
     let mut i: usize = 0;
     while i < n {
-        slice[to + i] = word_at(batch, at + 8 * i);
+        slice[to + i] = plain_word(form, word_at(batch, at + 8 * i));
         i += 1;
     }
 }
@@ -94,14 +98,14 @@ fn write_word(batch: &mut [u8], at: usize, word: u64)
     batch[at + 7] = (w7 % 256) as u8;
 }
 
-// The bytes of the words, from there on.
-pub fn write_words(words: &[u64], batch: &mut [u8], at: usize)
+// The bytes of the words in the form, from there on.
+pub fn write_words(words: &[u64], form: Form, batch: &mut [u8], at: usize)
     requires { ⌜ at + 8 * length (now words) ≤ length (now batch) ⌝ }
-    ensures { λ r. ⌜ now (batch .exit) ≡ pasted (now (batch .entry)) at (bytesOf (now (words .entry))) ⌝ }
+    ensures { λ r. ⌜ now (batch .exit) ≡ pasted (now (batch .entry)) at (bytesOf (inForm form (now (words .entry)))) ⌝ }
 {
     let mut i: usize = 0;
     while i < words.len() {
-        write_word(batch, at + 8 * i, words[i]);
+        write_word(batch, at + 8 * i, word_in(form, words[i]));
         i += 1;
     }
 }

@@ -12,6 +12,7 @@ use Rattle.refusal.specs.declared.Answer.the-variants.{Done, Refused}
 use Rattle.refusal.specs.declared.Refusal.{Refusal}
 use Rattle.refusal.specs.declared.Refusal.the-variants.{SliceLength, RowCount, WordNotBelowP}
 use Rattle.table_rows.specs.Rows.{rows}
+use Rattle.field_montgomery.specs.declared.Form.{Form}
 use Rattle.batch_writer.specs.Contents.{Contents}
 use Rattle.batch_writer.specs.Layout.{batchOf}
 use Rattle.batch_writer.specs.Write.{rightLengths, allWordsBelow, writeAnswer, writeBatch}
@@ -19,37 +20,37 @@ use Rattle.batch_writer.specs.Write.{rightLengths, allWordsBelow, writeA
 abbrev answerBy : Bool → Bool → Bool → Answer
 answerBy lengths count words = cond (not lengths) (Refused SliceLength) (cond (not count) (Refused RowCount) (cond (not words) (Refused WordNotBelowP) Done))
 
-module _ (c : Contents) (n : ℕ) where
-  pub by-tests : writeAnswer c n ≡ answerBy (rightLengths c n) (leb 1 (rows (c .trace)) && leb (rows (c .trace)) 32) (allWordsBelow c)
+module _ (form : Form) (c : Contents) (n : ℕ) where
+  pub by-tests : writeAnswer form c n ≡ answerBy (rightLengths form c n) (leb 1 (rows (c .trace)) && leb (rows (c .trace)) 32) (allWordsBelow c)
   unfolding writeAnswer
   by-tests = refl
 
-  pub wrong-lengths : rightLengths c n ≡ false → Refused SliceLength ≡ writeAnswer c n
+  pub wrong-lengths : rightLengths form c n ≡ false → Refused SliceLength ≡ writeAnswer form c n
   wrong-lengths e = sym (by-tests ∙ rw e)
 
-  module _ (right : rightLengths c n ≡ true) where
-    pub no-rows : rows (c .trace) < 1 → Refused RowCount ≡ writeAnswer c n
+  module _ (right : rightLengths form c n ≡ true) where
+    pub no-rows : rows (c .trace) < 1 → Refused RowCount ≡ writeAnswer form c n
     no-rows h = sym (by-tests ∙ rw (right, lt-leb 1 (rows (c .trace)) h))
 
     module _ (some : 1 ≤ rows (c .trace)) where
-      pub many-rows : 32 < rows (c .trace) → Refused RowCount ≡ writeAnswer c n
+      pub many-rows : 32 < rows (c .trace) → Refused RowCount ≡ writeAnswer form c n
       many-rows h = sym (by-tests ∙ rw (right, le-leb 1 (rows (c .trace)) some, lt-leb (rows (c .trace)) 32 h))
 
       module _ (few : rows (c .trace) ≤ 32) where
-        past-rows : writeAnswer c n ≡ answerBy true true (allWordsBelow c)
+        past-rows : writeAnswer form c n ≡ answerBy true true (allWordsBelow c)
         past-rows = by-tests ∙ rw (right, le-leb 1 (rows (c .trace)) some, le-leb (rows (c .trace)) 32 few)
 
-        pub wrong-words : allWordsBelow c ≡ false → Refused WordNotBelowP ≡ writeAnswer c n
+        pub wrong-words : allWordsBelow c ≡ false → Refused WordNotBelowP ≡ writeAnswer form c n
         wrong-words e = sym (past-rows ∙ ap (answerBy true true) e)
 
-        pub all-done : allWordsBelow c ≡ true → Done ≡ writeAnswer c n
+        pub all-done : allWordsBelow c ≡ true → Done ≡ writeAnswer form c n
         all-done e = sym (past-rows ∙ ap (answerBy true true) e)
 
-module _ (c : Contents) (batch : List ℕ) where
-  pub as-it-was : {r : Refusal} → Refused r ≡ writeAnswer c (length batch) → batch ≡ writeBatch c batch
+module _ (form : Form) (c : Contents) (batch : List ℕ) where
+  pub as-it-was : {r : Refusal} → Refused r ≡ writeAnswer form c (length batch) → batch ≡ writeBatch form c batch
   unfolding writeBatch
-  as-it-was e = ap (λ a. onDone a (batchOf c) batch) e
+  as-it-was e = ap (λ a. onDone a (batchOf form c) batch) e
 
-  pub the-batch : Done ≡ writeAnswer c (length batch) → batchOf c ≡ writeBatch c batch
+  pub the-batch : Done ≡ writeAnswer form c (length batch) → batchOf form c ≡ writeBatch form c batch
   unfolding writeBatch
-  the-batch e = ap (λ a. onDone a (batchOf c) batch) e
+  the-batch e = ap (λ a. onDone a (batchOf form c) batch) e

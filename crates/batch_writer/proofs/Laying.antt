@@ -7,7 +7,12 @@ use native.Mathlib.Omega.{arith}
 use lib.ListN.{length, take, drop, length-append, length-drop}
 use Rattle.batch_words.specs.Words.{bytesOf}
 use Rattle.batch_words.proofs.Writing.{length-bytesOf-take}
-use Rattle.batch_commands.specs.Format.{width, laidOut}
+use Rattle.field_montgomery.specs.Form.{inForm}
+use Rattle.field_montgomery.proofs.Many.{length-in-form}
+use Rattle.field_montgomery.specs.declared.Form.{Form}
+use Rattle.batch_commands.specs.Format.{ROW, width, laidOut}
+use Rattle.batch_commands.specs.Form.{rowCommand}
+use Rattle.batch_commands.proofs.Tables.{row-width}
 use Rattle.batch_writer.specs.Layout.{commandsWith}
 
 pub laid-next : (n code : ℕ) (ws : List ℕ) → laidOut (commandsWith (suc n) code ws) ≡ (code ∷ bytesOf (take (width code / 8) ws)) ++ laidOut (commandsWith n code (drop (width code / 8) ws))
@@ -27,3 +32,8 @@ length-laid (suc n) code ws whole enough =
     let rest = length-laid n code (drop k ws) whole (omega (arith, length-drop k ws)) in
     ap length (laid-next n code ws)
     ∙ omega (arith, length-append (code ∷ bytesOf (take k ws)) (laidOut (commandsWith n code (drop k ws))), length-bytesOf-take ws k (omega arith), rest, suc-mul n (1 + width code))
+
+-- rows in either form
+pub length-laid-rows : (form : Form) (n : ℕ) (ws : List ℕ) → n * (width ROW / 8) ≤ length ws → length (laidOut (commandsWith n (rowCommand form) (inForm form ws))) ≡ n * (1 + width ROW)
+length-laid-rows form n ws enough =
+    rw (row-width form) at (length-laid n (rowCommand form) (inForm form ws) (rw (row-width form)) (rw (row-width form, length-in-form form ws) enough))

@@ -6,6 +6,7 @@ use lib.Dec.{eqb, leb}
 use lib.ListN.{length}
 use borrow.Author.Tests.{eqb-true, leb-true, eq-eqb, le-leb}
 use Rattle.field_base.proofs.Below.{and-true}
+use Rattle.field_montgomery.specs.declared.Form.{Form}
 use Rattle.batch_writer.specs.Contents.{Contents}
 use Rattle.batch_writer.specs.Layout.{batchOf}
 use Rattle.batch_lengths.specs.Lengths.{batchLength, rightNumbers}
@@ -72,22 +73,22 @@ module _ (c : Contents) where
         batch-length = refl;
       }
 
-  is-number : {batch : ℕ} → Right c batch → length (batchOf c) ≡ number
-  is-number l = length-batchOf c (l .whole) (l .sampled) (l .digest)
+  is-number : (form : Form) {batch : ℕ} → Right c batch → length (batchOf form c) ≡ number
+  is-number form l = length-batchOf form c (l .whole) (l .sampled) (l .digest)
 
-  module _ (batch : ℕ) where
-    in-tests : rightLengths c batch ≡ (all-lists && eqb batch (length (batchOf c)))
+  module _ (form : Form) (batch : ℕ) where
+    in-tests : rightLengths form c batch ≡ (all-lists && eqb batch (length (batchOf form c)))
     unfolding rightLengths
     in-tests = refl
 
-    pub by-numbers : rightLengths c batch ≡ rightNumbers (length (c .trace)) (length (c .op-stack)) (length (c .ram)) (length (c .jump-stack)) (length (c .sampled)) (length (c .digest)) (length (c .input)) (length (c .output)) batch
-    by-numbers = in-tests ∙ and-same all-lists (eqb batch (length (batchOf c))) (eqb batch number) (λ all. ap (eqb batch) (is-number (lists all)))
+    pub by-numbers : rightLengths form c batch ≡ rightNumbers (length (c .trace)) (length (c .op-stack)) (length (c .ram)) (length (c .jump-stack)) (length (c .sampled)) (length (c .digest)) (length (c .input)) (length (c .output)) batch
+    by-numbers = in-tests ∙ and-same all-lists (eqb batch (length (batchOf form c))) (eqb batch number) (λ all. ap (eqb batch) (is-number form (lists all)))
 
-    pub right : rightLengths c batch ≡ true → Right c batch
+    pub right : rightLengths form c batch ≡ true → Right c batch
     right all =
-        let e = and-true all-lists (eqb batch (length (batchOf c))) (sym in-tests ∙ all) in
+        let e = and-true all-lists (eqb batch (length (batchOf form c))) (sym in-tests ∙ all) in
         let l = lists (e .0) in
-        rw (eqb-true batch (length (batchOf c)) (e .1) ∙ is-number l) l
+        rw (eqb-true batch (length (batchOf form c)) (e .1) ∙ is-number form l) l
 
-    pub all-right : Right c batch → true ≡ rightLengths c batch
+    pub all-right : Right c batch → true ≡ rightLengths form c batch
     all-right r = sym (by-numbers ∙ rw (eq-eqb _ 0 (r .whole), le-leb _ 128 (r .op-stack), le-leb _ 128 (r .ram), le-leb _ 128 (r .jump-stack), eq-eqb _ 177 (r .sampled), eq-eqb _ 5 (r .digest), le-leb _ 64 (r .input), le-leb _ 64 (r .output), eq-eqb batch number (r .batch-length)))

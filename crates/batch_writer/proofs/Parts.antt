@@ -7,14 +7,17 @@ use lib.ListN.{length, length-append}
 use Rattle.table_rows.specs.Rows.{rows}
 use Rattle.batch_words.specs.Words.{littleEndian}
 use Rattle.batch_words.proofs.Writing.{length-littleEndian}
-use Rattle.batch_commands.specs.Format.{END, TRACE-ROWS, ROW, OP-STACK, RAM, JUMP-STACK, SAMPLED, DIGEST, INPUT, OUTPUT, Command, laidOut}
+use Rattle.batch_commands.specs.Format.{END, TRACE-ROWS, OP-STACK, RAM, JUMP-STACK, SAMPLED, DIGEST, INPUT, OUTPUT, Command, laidOut}
+use Rattle.field_montgomery.specs.declared.Form.{Form}
+use Rattle.field_montgomery.specs.Form.{inForm}
+use Rattle.batch_commands.specs.Form.{rowCommand}
 use Rattle.batch_commands.proofs.Laid.{laid-append}
 use Rattle.batch_sorted.specs.Sorted.{sorted}
 use Rattle.batch_sorted.proofs.Lengths.{length-sorted}
 use Rattle.batch_writer.specs.Contents.{Contents}
 use Rattle.batch_lengths.specs.Lengths.{batchLength}
 use Rattle.batch_writer.specs.Layout.{commandsWith, batchOf}
-use Rattle.batch_writer.proofs.Laying.{length-laid}
+use Rattle.batch_writer.proofs.Laying.{length-laid, length-laid-rows}
 
 laid-all : (a b c d e f g h i j : List Command) → laidOut (a ++ b ++ c ++ d ++ e ++ f ++ g ++ h ++ i ++ j) ≡ laidOut a ++ laidOut b ++ laidOut c ++ laidOut d ++ laidOut e ++ laidOut f ++ laidOut g ++ laidOut h ++ laidOut i ++ laidOut j
 laid-all a b c d e f g h i j = simp laid-append
@@ -29,7 +32,7 @@ single k = ap (_∷_ (k .code)) (append-nil (k .operand))
 abbrev kind : ℕ → ℕ → List ℕ → List ℕ
 kind n code ws = laidOut (commandsWith n code ws)
 
-module _ (c : Contents) where
+module _ (form : Form) (c : Contents) where
   abbrev first : Command
   first = record { code = TRACE-ROWS; operand = littleEndian 4 (rows (c .trace)) }
 
@@ -43,13 +46,13 @@ module _ (c : Contents) where
       ++ commandsWith (length (c .input)) INPUT (c .input)
       ++ commandsWith (length (c .output)) OUTPUT (c .output)
       ++ commandsWith 1 SAMPLED (c .sampled)
-      ++ commandsWith (rows (c .trace)) ROW (c .trace)
+      ++ commandsWith (rows (c .trace)) (rowCommand form) (inForm form (c .trace))
       ++ commandsWith (length (c .op-stack)) OP-STACK (sorted (c .op-stack))
       ++ commandsWith (length (c .ram)) RAM (sorted (c .ram))
       ++ commandsWith (length (c .jump-stack)) JUMP-STACK (sorted (c .jump-stack))
       ++ (last ∷ [])
 
-  as-commands : batchOf c ≡ laidOut commands
+  as-commands : batchOf form c ≡ laidOut commands
   unfolding batchOf
   as-commands = refl
 
@@ -70,7 +73,7 @@ module _ (c : Contents) where
   upTo06 = upTo09 ++ kind 1 SAMPLED (c .sampled)
 
   abbrev pub upTo02 : List ℕ
-  upTo02 = upTo06 ++ kind (rows (c .trace)) ROW (c .trace)
+  upTo02 = upTo06 ++ kind (rows (c .trace)) (rowCommand form) (inForm form (c .trace))
 
   abbrev pub upTo03 : List ℕ
   upTo03 = upTo02 ++ kind (length (c .op-stack)) OP-STACK (sorted (c .op-stack))
@@ -81,17 +84,17 @@ module _ (c : Contents) where
   abbrev pub upTo05 : List ℕ
   upTo05 = upTo04 ++ kind (length (c .jump-stack)) JUMP-STACK (sorted (c .jump-stack))
 
-  pub in-parts : batchOf c ≡ upTo05 ++ (END ∷ [])
+  pub in-parts : batchOf form c ≡ upTo05 ++ (END ∷ [])
   in-parts =
       as-commands
-      ∙ laid-all (first ∷ []) (commandsWith 1 DIGEST (c .digest)) (commandsWith (length (c .input)) INPUT (c .input)) (commandsWith (length (c .output)) OUTPUT (c .output)) (commandsWith 1 SAMPLED (c .sampled)) (commandsWith (rows (c .trace)) ROW (c .trace)) (commandsWith (length (c .op-stack)) OP-STACK (sorted (c .op-stack))) (commandsWith (length (c .ram)) RAM (sorted (c .ram))) (commandsWith (length (c .jump-stack)) JUMP-STACK (sorted (c .jump-stack))) (last ∷ [])
+      ∙ laid-all (first ∷ []) (commandsWith 1 DIGEST (c .digest)) (commandsWith (length (c .input)) INPUT (c .input)) (commandsWith (length (c .output)) OUTPUT (c .output)) (commandsWith 1 SAMPLED (c .sampled)) (commandsWith (rows (c .trace)) (rowCommand form) (inForm form (c .trace))) (commandsWith (length (c .op-stack)) OP-STACK (sorted (c .op-stack))) (commandsWith (length (c .ram)) RAM (sorted (c .ram))) (commandsWith (length (c .jump-stack)) JUMP-STACK (sorted (c .jump-stack))) (last ∷ [])
       ∙ rw (single first, single last)
 
   pub length-batchOf : length (c .trace) % 39 ≡ 0 → length (c .sampled) ≡ 177 → length (c .digest) ≡ 5
-      → length (batchOf c) ≡ batchLength (rows (c .trace)) (length (c .op-stack) + length (c .ram) + length (c .jump-stack) + length (c .input) + length (c .output))
+      → length (batchOf form c) ≡ batchLength (rows (c .trace)) (length (c .op-stack) + length (c .ram) + length (c .jump-stack) + length (c .input) + length (c .output))
   length-batchOf whole sampled digest =
       ap length in-parts
-      ∙ length-all (TRACE-ROWS ∷ littleEndian 4 (rows (c .trace))) (kind 1 DIGEST (c .digest)) (kind (length (c .input)) INPUT (c .input)) (kind (length (c .output)) OUTPUT (c .output)) (kind 1 SAMPLED (c .sampled)) (kind (rows (c .trace)) ROW (c .trace)) (kind (length (c .op-stack)) OP-STACK (sorted (c .op-stack))) (kind (length (c .ram)) RAM (sorted (c .ram))) (kind (length (c .jump-stack)) JUMP-STACK (sorted (c .jump-stack))) (END ∷ [])
+      ∙ length-all (TRACE-ROWS ∷ littleEndian 4 (rows (c .trace))) (kind 1 DIGEST (c .digest)) (kind (length (c .input)) INPUT (c .input)) (kind (length (c .output)) OUTPUT (c .output)) (kind 1 SAMPLED (c .sampled)) (kind (rows (c .trace)) (rowCommand form) (inForm form (c .trace))) (kind (length (c .op-stack)) OP-STACK (sorted (c .op-stack))) (kind (length (c .ram)) RAM (sorted (c .ram))) (kind (length (c .jump-stack)) JUMP-STACK (sorted (c .jump-stack))) (END ∷ [])
       ∙ omega (
         arith,
         length-littleEndian 4 (rows (c .trace)),
@@ -99,7 +102,7 @@ module _ (c : Contents) where
         length-laid (length (c .input)) INPUT (c .input) refl (omega arith),
         length-laid (length (c .output)) OUTPUT (c .output) refl (omega arith),
         length-laid 1 SAMPLED (c .sampled) refl (omega arith),
-        length-laid (rows (c .trace)) ROW (c .trace) refl (omega arith),
+        length-laid-rows form (rows (c .trace)) (c .trace) (omega arith),
         length-laid (length (c .op-stack)) OP-STACK (sorted (c .op-stack)) refl (omega (arith, length-sorted (c .op-stack))),
         length-laid (length (c .ram)) RAM (sorted (c .ram)) refl (omega (arith, length-sorted (c .ram))),
         length-laid (length (c .jump-stack)) JUMP-STACK (sorted (c .jump-stack)) refl (omega (arith, length-sorted (c .jump-stack))),

@@ -18,7 +18,7 @@ pub record Reached (batch₀ batch : List ℕ) (at n : ℕ) (bytes : List ℕ) :
   pub holds : batch ≡ pasted batch₀ 0 bytes
 
 module _ {batch₀ batch : List ℕ} {at n : ℕ} {bytes : List ℕ} (r : Reached batch₀ batch at n bytes) where
-  on : (more batch′ : List ℕ) (at′ m : ℕ) → n + m ≤ length batch₀ → length more ≡ m → length batch′ ≡ length batch → at′ ≡ at + m → batch′ ≡ pasted batch at more → Reached batch₀ batch′ at′ (n + m) (bytes ++ more)
+  pub on : (more batch′ : List ℕ) (at′ m : ℕ) → n + m ≤ length batch₀ → length more ≡ m → length batch′ ≡ length batch → at′ ≡ at + m → batch′ ≡ pasted batch at more → Reached batch₀ batch′ at′ (n + m) (bytes ++ more)
   on more batch′ at′ m fits e l p h =
       record {
         same-length = l ∙ r .same-length;

@@ -1,4 +1,4 @@
--- Write: the answer, and what the lent batch holds then.
+-- Write: the answer, and what the lent batch holds then. "The writer is told which form to write."
 use mathlib.Core.Bool.{Bool, cond, not, _&&_}
 use mathlib.Core.List.{List}
 use Prim.Native.Nat.{ℕ}
@@ -12,13 +12,14 @@ use Rattle.refusal.specs.declared.Refusal.the-variants.{SliceLength, RowCount, 
 use Rattle.air.specs.ChallengeId.{SAMPLED-WORDS, DIGEST-WORDS}
 use Rattle.table_rows.specs.Rows.{wholeRows, rows}
 use Rattle.batch_commands.specs.Format.{MAX-ROWS, MAX-DIFFERENCES, MAX-WORDS}
+use Rattle.field_montgomery.specs.declared.Form.{Form}
 use Rattle.batch_writer.specs.Contents.{Contents}
 use Rattle.batch_writer.specs.Layout.{batchOf}
 
 -- "a slice of wrong length (a list past its count, an output not of the batch's length)"
-unfoldable pub rightLengths : Contents → ℕ → Bool
+unfoldable pub rightLengths : Form → Contents → ℕ → Bool
 unfolding batchOf
-rightLengths contents batch =
+rightLengths form contents batch =
     wholeRows (contents .trace)
     && leb (length (contents .op-stack)) MAX-DIFFERENCES
     && leb (length (contents .ram)) MAX-DIFFERENCES
@@ -27,7 +28,7 @@ rightLengths contents batch =
     && eqb (length (contents .digest)) DIGEST-WORDS
     && leb (length (contents .input)) MAX-WORDS
     && leb (length (contents .output)) MAX-WORDS
-    && eqb batch (length (batchOf contents))
+    && eqb batch (length (batchOf form contents))
 
 abbrev pub allWordsBelow : Contents → Bool
 allWordsBelow contents =
@@ -41,15 +42,15 @@ allWordsBelow contents =
     && allBelow (contents .output)
 
 -- "1 for a slice of wrong length .., then 3, then 2", where the lent batch has `batch` bytes
-unfoldable pub writeAnswer : Contents → ℕ → Answer
+unfoldable pub writeAnswer : Form → Contents → ℕ → Answer
 unfolding rightLengths
-writeAnswer contents batch =
-    cond (not (rightLengths contents batch)) (Refused SliceLength)
+writeAnswer form contents batch =
+    cond (not (rightLengths form contents batch)) (Refused SliceLength)
     (cond (not (leb 1 (rows (contents .trace)) && leb (rows (contents .trace)) MAX-ROWS)) (Refused RowCount)
     (cond (not (allWordsBelow contents)) (Refused WordNotBelowP)
     Done))
 
 -- what the lent batch holds then
-unfoldable pub writeBatch : Contents → List ℕ → List ℕ
+unfoldable pub writeBatch : Form → Contents → List ℕ → List ℕ
 unfolding writeAnswer batchOf
-writeBatch contents batch = onDone (writeAnswer contents (length batch)) (batchOf contents) batch
+writeBatch form contents batch = onDone (writeAnswer form contents (length batch)) (batchOf form contents) batch

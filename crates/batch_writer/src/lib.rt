@@ -2,6 +2,7 @@
 use air::MainIndex;
 use batch_lengths::right_lengths;
 use field_base::all_below;
+use field_montgomery::Form;
 use refusal::Answer;
 use refusal::Refusal;
 use unchecked::put_batch;
@@ -50,7 +51,7 @@ fn all_words_below(
     all_below(output)
 }
 
-// Writes the batch of these contents, or nothing where it refuses.
+// Writes the batch of these contents, its rows in the form, or nothing where it refuses.
 pub fn write(
     trace: &[u64],
     op_stack: &[u64],
@@ -60,10 +61,11 @@ pub fn write(
     digest: &[u64],
     input: &[u64],
     output: &[u64],
+    form: Form,
     batch: &mut [u8],
 ) -> Answer
-    ensures answer { λ r. ⌜ r ≡ writeAnswer (contentsOf (now (trace .entry)) (now («op_stack» .entry)) (now (ram .entry)) (now («jump_stack» .entry)) (now (sampled .entry)) (now (digest .entry)) (now (input .entry)) (now (output .entry))) (length (now (batch .entry))) ⌝ }
-    ensures batch { λ r. ⌜ now (batch .exit) ≡ writeBatch (contentsOf (now (trace .entry)) (now («op_stack» .entry)) (now (ram .entry)) (now («jump_stack» .entry)) (now (sampled .entry)) (now (digest .entry)) (now (input .entry)) (now (output .entry))) (now (batch .entry)) ⌝ }
+    ensures answer { λ r. ⌜ r ≡ writeAnswer form (contentsOf (now (trace .entry)) (now («op_stack» .entry)) (now (ram .entry)) (now («jump_stack» .entry)) (now (sampled .entry)) (now (digest .entry)) (now (input .entry)) (now (output .entry))) (length (now (batch .entry))) ⌝ }
+    ensures batch { λ r. ⌜ now (batch .exit) ≡ writeBatch form (contentsOf (now (trace .entry)) (now («op_stack» .entry)) (now (ram .entry)) (now («jump_stack» .entry)) (now (sampled .entry)) (now (digest .entry)) (now (input .entry)) (now (output .entry))) (now (batch .entry)) ⌝ }
 {
     if !right_lengths(
         trace.len(),
@@ -106,6 +108,7 @@ pub fn write(
         digest,
         input,
         output,
+        form,
         batch,
     );
     Answer::Done

@@ -4,10 +4,12 @@ use challenges::Challenges;
 use tealbobbin_answers::put_base;
 use tealbobbin_answers::put_decoded;
 use tealbobbin_answers::put_element;
+use tealbobbin_answers::told_form;
 use tealbobbin_answers::unchecked::put_counts;
 ghost use mathlib.Core.Path.{_≡_};
 ghost use lib.ListN.{length};
 ghost use Rattle.field_base.specs.Answers.{baseAdd, baseSub, baseMul, baseInverse};
+ghost use Rattle.field_montgomery.specs.Answers.{toAnswer, fromAnswer, montgomeryAdd, montgomeryMul, montgomeryInverted};
 ghost use Rattle.field.specs.Answers.{elementAdd, elementSub, elementMul, elementScale, elementInverse};
 ghost use Rattle.refusal.specs.Number.{answerNumberOf};
 ghost use Rattle.isa_decoding.specs.Answer.{decodeAnswer};
@@ -23,6 +25,7 @@ ghost use Rattle.batch.specs.Open.{openNumber};
 ghost use Rattle.batch_writer.specs.Contents.{contentsOf};
 ghost use Rattle.batch_writer.specs.Write.{writeAnswer, writeBatch};
 ghost use Rattle.tealbobbin_answers.specs.Open.{slices, openInto, slicesAfter};
+ghost use Rattle.tealbobbin_answers.specs.Write.{toldForm};
 ghost use Rattle.tealbobbin_answers.specs.Decode.{decodeNumberInto, decodeInto};
 ghost use Rattle.tealbobbin_answers.specs.Field.{baseNumberInto, baseInto, unaryNumber, unaryOut, binaryNumber, binaryOut};
 
@@ -56,6 +59,46 @@ pub extern "C" fn tealbobbin_base_inverse(a: u64, out: &mut [u64]) -> u32
     ensures written { λ r. ⌜ now (out .exit) ≡ baseInto (now (out .entry)) (baseInverse a) ⌝ }
 {
     put_base(field_base::inverse(a), out)
+}
+
+#[no_mangle]
+pub extern "C" fn tealbobbin_to_montgomery(a: u64, out: &mut [u64]) -> u32
+    ensures number { λ r. ⌜ r ≡ baseNumberInto (now (out .entry)) (toAnswer a) ⌝ }
+    ensures written { λ r. ⌜ now (out .exit) ≡ baseInto (now (out .entry)) (toAnswer a) ⌝ }
+{
+    put_base(field_montgomery::to_montgomery(a), out)
+}
+
+#[no_mangle]
+pub extern "C" fn tealbobbin_from_montgomery(a: u64, out: &mut [u64]) -> u32
+    ensures number { λ r. ⌜ r ≡ baseNumberInto (now (out .entry)) (fromAnswer a) ⌝ }
+    ensures written { λ r. ⌜ now (out .exit) ≡ baseInto (now (out .entry)) (fromAnswer a) ⌝ }
+{
+    put_base(field_montgomery::from_montgomery(a), out)
+}
+
+#[no_mangle]
+pub extern "C" fn tealbobbin_montgomery_add(a: u64, b: u64, out: &mut [u64]) -> u32
+    ensures number { λ r. ⌜ r ≡ baseNumberInto (now (out .entry)) (montgomeryAdd a b) ⌝ }
+    ensures written { λ r. ⌜ now (out .exit) ≡ baseInto (now (out .entry)) (montgomeryAdd a b) ⌝ }
+{
+    put_base(field_montgomery::add(a, b), out)
+}
+
+#[no_mangle]
+pub extern "C" fn tealbobbin_montgomery_mul(a: u64, b: u64, out: &mut [u64]) -> u32
+    ensures number { λ r. ⌜ r ≡ baseNumberInto (now (out .entry)) (montgomeryMul a b) ⌝ }
+    ensures written { λ r. ⌜ now (out .exit) ≡ baseInto (now (out .entry)) (montgomeryMul a b) ⌝ }
+{
+    put_base(field_montgomery::mul(a, b), out)
+}
+
+#[no_mangle]
+pub extern "C" fn tealbobbin_montgomery_inverse(a: u64, out: &mut [u64]) -> u32
+    ensures number { λ r. ⌜ r ≡ baseNumberInto (now (out .entry)) (montgomeryInverted a) ⌝ }
+    ensures written { λ r. ⌜ now (out .exit) ≡ baseInto (now (out .entry)) (montgomeryInverted a) ⌝ }
+{
+    put_base(field_montgomery::inverse(a), out)
 }
 
 #[no_mangle]
@@ -285,7 +328,7 @@ pub extern "C" fn tealbobbin_open(
     put_counts(answer, counts)
 }
 
-// Writes the batch of the given contents. The lists of differences come in any order.
+// Writes the batch of the given contents, its rows as 02 if `form` is 0, else as 0A. The lists of differences come in any order.
 #[no_mangle]
 pub extern "C" fn tealbobbin_write(
     trace: &[u64],
@@ -296,13 +339,14 @@ pub extern "C" fn tealbobbin_write(
     digest: &[u64],
     input: &[u64],
     output: &[u64],
+    form: u64,
     batch: &mut [u8],
 ) -> u32
-    ensures number { λ r. ⌜ r ≡ answerNumberOf (writeAnswer
+    ensures number { λ r. ⌜ r ≡ answerNumberOf (writeAnswer (toldForm form)
         (contentsOf (now (trace .entry)) (now («op_stack» .entry)) (now (ram .entry)) (now («jump_stack» .entry)) (now (sampled .entry))
         (now (digest .entry)) (now (input .entry)) (now (output .entry)))
         (length (now (batch .entry)))) ⌝ }
-    ensures written { λ r. ⌜ now (batch .exit) ≡ writeBatch
+    ensures written { λ r. ⌜ now (batch .exit) ≡ writeBatch (toldForm form)
         (contentsOf (now (trace .entry)) (now («op_stack» .entry)) (now (ram .entry)) (now («jump_stack» .entry)) (now (sampled .entry))
         (now (digest .entry)) (now (input .entry)) (now (output .entry)))
         (now (batch .entry)) ⌝ }
@@ -316,6 +360,7 @@ pub extern "C" fn tealbobbin_write(
         digest,
         input,
         output,
+        told_form(form),
         batch,
     ))
 }

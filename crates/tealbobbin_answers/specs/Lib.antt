@@ -1,4 +1,5 @@
--- What the exported functions answer and write.
+-- What the exported functions take, answer and write.
 pub mod Field
 pub mod Decode
 pub mod Open
+pub mod Write

@@ -1,12 +1,14 @@
-// How answers are written for the C ABI.
+// How arguments and answers pass the C ABI.
 use field::ElementAnswer;
 use field_base::BaseAnswer;
+use field_montgomery::Form;
 use isa_decoding::Class;
 use isa_decoding::DecodeAnswer;
 use isa_decoding::Decoded;
 ghost use mathlib.Core.Path.{_≡_};
 ghost use Rattle.isa_decoding.specs.Answer.{classWord, decodedWords};
 ghost use Rattle.tealbobbin_answers.specs.Decode.{decodeNumberInto, decodeInto};
+ghost use Rattle.tealbobbin_answers.specs.Write.{toldForm};
 ghost use Rattle.tealbobbin_answers.specs.Field.{baseNumberInto, baseInto, elementNumberInto, elementInto};
 
 pub mod unchecked;
@@ -80,5 +82,16 @@ pub fn put_decoded(answer: DecodeAnswer, out: &mut [u64]) -> u32
             0
         }
         DecodeAnswer::Refused(refusal) => refusal::number(refusal),
+    }
+}
+
+// The form of rows that a caller asks for.
+pub fn told_form(word: u64) -> Form
+    ensures { λ r. ⌜ r ≡ toldForm word ⌝ }
+{
+    if word == 0 {
+        Form::Plain
+    } else {
+        Form::Montgomery
     }
 }

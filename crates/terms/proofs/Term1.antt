@@ -15,9 +15,10 @@ use Rattle.refusal.specs.declared.Refusal.the-variants.{SliceLength, WordNotBel
 use Rattle.refusal.specs.declared.Answer.{Answer}
 use Rattle.refusal.specs.declared.Answer.the-variants.{Done, Refused}
 use Rattle.field_base.specs.Words.{allBelow}
-use Rattle.field_base.specs.Answers.{baseNumber, baseChecked, baseAdd, baseSub, baseMul, baseInverse}
+use Rattle.field_base.specs.Answers.{baseNumber, baseChecked}
 use Rattle.field_base.specs.declared.BaseAnswer.{BaseAnswer}
 use Rattle.field_base.specs.declared.BaseAnswer.the-variants as base-answer
+use Rattle.field_montgomery.specs.Form.{toMontgomery, fromMontgomery, montgomeryProduct, montgomeryInverse}
 use Rattle.field.specs.Answers as answers
 use Rattle.field.specs.Answers.{elementAdd, elementSub, elementMul, elementScale, elementInverse}
 use Rattle.field.specs.Element.{elementAt, canonical, isZero, sum, difference, product, scale, inverse}
@@ -44,7 +45,7 @@ use Rattle.extend_answer.proofs.Accepted.{wrongRows, wrongWords}
 use Rattle.extend_answer.specs.Strict.{undecodable, behindEleven, strictAnswer}
 use Rattle.extend.specs.Extend.{extendAux, extendWork, strictAux, strictWork}
 use Rattle.batch_commands.specs.declared.Seen.{Seen}
-use Rattle.batch_commands.specs.Format.{END, width, wordsIn, MAX-ROWS, Command}
+use Rattle.batch_commands.specs.Format.{END, COMMANDS, width, wordsIn, MAX-ROWS, Command}
 use Rattle.batch_commands.specs.Fault.{outOfPlace, outOfOrder, wrongRowCount, judged, fault}
 use Rattle.batch_reader.specs.Commands.{seenIn}
 use Rattle.batch_reader.specs.Reading.{Reading, read, unless, readFrom, reading}
@@ -53,6 +54,7 @@ use Rattle.batch_reader.specs.declared.OpenAnswer.{OpenAnswer}
 use Rattle.batch_reader.specs.declared.OpenAnswer.the-variants as open-answer
 use Rattle.batch.specs.Open as batch
 use Rattle.batch.specs.Open.{openNumber, openAnswer, openSlice}
+use Rattle.tealbobbin_answers.specs.Write.{toldForm}
 use Rattle.batch_writer.specs.Layout.{batchOf}
 use Rattle.batch_writer.specs.Write as writer
 use Rattle.batch_writer.specs.Write.{writeAnswer, writeBatch}
@@ -146,6 +148,16 @@ on-elements f t fixed a b out =
 base-checked : {line : List ℕ} (below : Bool) (answer : BaseAnswer) → T (stands line 2) → baseNumber answer ∈ 0 ∷ line → baseNumber (baseChecked below answer) ∈ 0 ∷ line
 base-checked below answer t f = chosen baseNumber below answer (base-answer.Refused WordNotBelowP) f (listed WordNotBelowP t)
 
+word-checked : (below : Bool) (w : ℕ) → OnWords (1 ∷ 2 ∷ []) (baseChecked below (base-answer.Word w))
+word-checked below w = on-words (baseChecked below (base-answer.Word w)) tt (base-checked below (base-answer.Word w) tt zero-listed)
+
+inverse-checked : (a w : ℕ) → OnWords (1 ∷ 2 ∷ 6 ∷ []) (baseChecked (ltb a p) (cond (eqb a 0) (base-answer.Refused ZeroDenominator) (base-answer.Word w)))
+inverse-checked a w =
+    let answer = cond (eqb a 0) (base-answer.Refused ZeroDenominator) (base-answer.Word w) in
+    on-words (baseChecked (ltb a p) answer) tt
+    (base-checked (ltb a p) answer tt
+    (chosen baseNumber (eqb a 0) (base-answer.Refused ZeroDenominator) (base-answer.Word w) (listed ZeroDenominator tt) zero-listed))
+
 element-checked : {line : List ℕ} (below : Bool) (answer : ElementAnswer) → T (stands line 2) → answers.elementNumber answer ∈ 0 ∷ line
     → answers.elementNumber (answers.elementChecked below answer) ∈ 0 ∷ line
 element-checked below answer t f = chosen answers.elementNumber below answer (element-answer.Refused WordNotBelowP) f (listed WordNotBelowP t)
@@ -198,7 +210,7 @@ module _ (line : List ℕ) (t : T (every (stands line) (7 ∷ 8 ∷ 9 ∷ 10 ∷
   unfolding fault judged
   command seen code bytes =
       by-refusals
-      ((ltb 9 code, UnknownCommand)
+      ((leb COMMANDS code, UnknownCommand)
       ∷ (ltb (length bytes) (width code), BatchCutOff)
       ∷ (outOfPlace (seen .rows) (seen .came) code (length bytes - width code), CommandOutOfPlace)
       ∷ (outOfOrder seen code bytes, CommandOutOfOrder)
@@ -232,14 +244,15 @@ pub term1 : Term1
 unfolding decodeAnswer challengesAnswer challengesRecord fillAnswer fillTable padAnswer padTable extendAnswer extendAux extendWork strictAnswer strictAux strictWork openInto openAnswer reading writeAnswer writeBatch
 term1 =
     record {
-      base-add = λ a b. on-words (baseAdd a b) tt (base-checked (ltb a p && ltb b p) (base-answer.Word (base.plus a b)) tt zero-listed);
-      base-sub = λ a b. on-words (baseSub a b) tt (base-checked (ltb a p && ltb b p) (base-answer.Word (base.minus a b)) tt zero-listed);
-      base-mul = λ a b. on-words (baseMul a b) tt (base-checked (ltb a p && ltb b p) (base-answer.Word (base.times a b)) tt zero-listed);
-      base-inverse = λ a.
-          let word = base-answer.Word (base.inverse a) in
-          on-words (baseInverse a) tt
-          (base-checked (ltb a p) (cond (eqb a 0) (base-answer.Refused ZeroDenominator) word) tt
-          (chosen baseNumber (eqb a 0) (base-answer.Refused ZeroDenominator) word (listed ZeroDenominator tt) zero-listed));
+      base-add = λ a b. word-checked (ltb a p && ltb b p) (base.plus a b);
+      base-sub = λ a b. word-checked (ltb a p && ltb b p) (base.minus a b);
+      base-mul = λ a b. word-checked (ltb a p && ltb b p) (base.times a b);
+      base-inverse = λ a. inverse-checked a (base.inverse a);
+      to-montgomery = λ a. word-checked (ltb a p) (toMontgomery a);
+      from-montgomery = λ a. word-checked (ltb a p) (fromMontgomery a);
+      montgomery-add = λ a b. word-checked (ltb a p && ltb b p) (base.plus a b);
+      montgomery-mul = λ a b. word-checked (ltb a p && ltb b p) (montgomeryProduct a b);
+      montgomery-inverse = λ a. inverse-checked a (montgomeryInverse a);
       element-add = on-elements elementAdd tt (λ d e. element-checked (canonical d && canonical e) (element-answer.Element (sum d e)) tt zero-listed);
       element-sub = on-elements elementSub tt (λ d e. element-checked (canonical d && canonical e) (element-answer.Element (difference d e)) tt zero-listed);
       element-mul = on-elements elementMul tt (λ d e. element-checked (canonical d && canonical e) (element-answer.Element (product d e)) tt zero-listed);
@@ -303,12 +316,12 @@ term1 =
           (by-tests open-answer.Refused openNumber (λ r. refl) ((ltb batch.MAX-BYTES (length bytes) || not lengths, SliceLength) ∷ []) tt
           (answerOf (reading bytes)) (batch-read _ tt (length bytes) [] bytes))
           (listed SliceLength tt));
-      write-batch = λ contents bytes.
-          on-done (writeAnswer contents (length bytes))
+      write-batch = λ contents form bytes.
+          on-done (writeAnswer (toldForm form) contents (length bytes))
           (by-refusals
-          ((not (writer.rightLengths contents (length bytes)), SliceLength)
+          ((not (writer.rightLengths (toldForm form) contents (length bytes)), SliceLength)
           ∷ (not (leb 1 (rows (contents .trace)) && leb (rows (contents .trace)) MAX-ROWS), RowCount)
           ∷ (not (writer.allWordsBelow contents), WordNotBelowP)
           ∷ []) tt)
-          (batchOf contents) bytes;
+          (batchOf (toldForm form) contents) bytes;
     }

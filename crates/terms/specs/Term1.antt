@@ -9,6 +9,7 @@ use lib.ListN.{length}
 use Rattle.refusal.specs.Number.{answerNumberOf}
 use Rattle.field_base.specs.Answers.{baseAdd, baseSub, baseMul, baseInverse}
 use Rattle.field_base.specs.declared.BaseAnswer.{BaseAnswer}
+use Rattle.field_montgomery.specs.Answers.{toAnswer, fromAnswer, montgomeryAdd, montgomeryMul, montgomeryInverted}
 use Rattle.field.specs.Answers.{elementAdd, elementSub, elementMul, elementScale, elementInverse}
 use Rattle.field.specs.declared.XFieldElement.{XFieldElement}
 use Rattle.field.specs.declared.ElementAnswer.{ElementAnswer}
@@ -26,6 +27,7 @@ use Rattle.batch_writer.specs.Contents.{Contents}
 use Rattle.batch_writer.specs.Write.{writeAnswer, writeBatch}
 use Rattle.tealbobbin_answers.specs.Field.{baseNumberInto, baseInto, unaryNumber, unaryOut, binaryNumber, binaryOut}
 use Rattle.tealbobbin_answers.specs.Decode.{decodeNumberInto, decodeInto}
+use Rattle.tealbobbin_answers.specs.Write.{toldForm}
 use Rattle.tealbobbin_answers.specs.Open.{Slices, openInto, slicesAfter}
 
 -- n stands in the list
@@ -59,6 +61,11 @@ pub record Term1 : Type 0 where
   pub base-sub : (a b : ℕ) → OnWords (1 ∷ 2 ∷ []) (baseSub a b)
   pub base-mul : (a b : ℕ) → OnWords (1 ∷ 2 ∷ []) (baseMul a b)
   pub base-inverse : (a : ℕ) → OnWords (1 ∷ 2 ∷ 6 ∷ []) (baseInverse a)
+  pub to-montgomery : (a : ℕ) → OnWords (1 ∷ 2 ∷ []) (toAnswer a)
+  pub from-montgomery : (a : ℕ) → OnWords (1 ∷ 2 ∷ []) (fromAnswer a)
+  pub montgomery-add : (a b : ℕ) → OnWords (1 ∷ 2 ∷ []) (montgomeryAdd a b)
+  pub montgomery-mul : (a b : ℕ) → OnWords (1 ∷ 2 ∷ []) (montgomeryMul a b)
+  pub montgomery-inverse : (a : ℕ) → OnWords (1 ∷ 2 ∷ 6 ∷ []) (montgomeryInverted a)
   pub element-add : OnElements (1 ∷ 2 ∷ []) elementAdd
   pub element-sub : OnElements (1 ∷ 2 ∷ []) elementSub
   pub element-mul : OnElements (1 ∷ 2 ∷ []) elementMul
@@ -83,5 +90,5 @@ pub record Term1 : Type 0 where
       ((strictAux main challenges chunk aux work ≡ aux) × (strictWork main challenges chunk aux work ≡ work))
   pub open-batch : (batch : List ℕ) (lent : Slices)
       → Answers (1 ∷ 7 ∷ 8 ∷ 9 ∷ 10 ∷ 3 ∷ 2 ∷ []) (openNumber (openInto batch lent)) (slicesAfter batch lent ≡ lent)
-  pub write-batch : (contents : Contents) (batch : List ℕ)
-      → Answers (1 ∷ 3 ∷ 2 ∷ []) (answerNumberOf (writeAnswer contents (length batch))) (writeBatch contents batch ≡ batch)
+  pub write-batch : (contents : Contents) (form : ℕ) (batch : List ℕ)
+      → Answers (1 ∷ 3 ∷ 2 ∷ []) (answerNumberOf (writeAnswer (toldForm form) contents (length batch))) (writeBatch (toldForm form) contents batch ≡ batch)

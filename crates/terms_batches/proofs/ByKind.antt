@@ -1,13 +1,15 @@
 -- Commands in order are their kinds one after the other.
 use mathlib.Core.Path.{_≡_, refl, sym, ap, _∙_}
-use mathlib.Core.Bool.{Bool, true, false, cond}
+use mathlib.Core.Bool.{Bool, true, false, cond, _||_}
 use mathlib.Core.List.{List, [], _∷_, _++_}
 use Prim.Native.Nat.{ℕ, suc, _≤_, _<_}
 use native.Mathlib.Omega.{arith}
-use lib.Dec.{eqb, leb, lit<, lit≤}
-use borrow.Author.Tests.{leb-true, leb-false, le-leb, lt-leb, eqb-true, eqb-false, eq-eqb, ne-eqb}
-use Rattle.batch_commands.specs.Format.{END, TRACE-ROWS, ROW, OP-STACK, RAM, JUMP-STACK, SAMPLED, DIGEST, INPUT, OUTPUT, rank, key, Command}
-use Rattle.batch_commands.proofs.Tables.{of-each, rank-injective}
+use lib.Dec.{eqb, leb, ltb, lit<, lit≤}
+use borrow.Author.Tests.{ltb-true, leb-true, leb-false, le-leb, lt-leb, eqb-true, eqb-false, eq-eqb, ne-eqb}
+use Rattle.batch_commands.specs.Format.{END, TRACE-ROWS, ROW, OP-STACK, RAM, JUMP-STACK, SAMPLED, DIGEST, INPUT, OUTPUT, MONTGOMERY-ROW, COMMANDS, rank, key, Command}
+use Rattle.field_montgomery.specs.declared.Form.{Form}
+use Rattle.batch_commands.specs.Form.{rowCommand, OfForm}
+use Rattle.batch_commands.proofs.Tables.{of-test, rank-injective, of-any, row-known, row-rank, row-of}
 use Rattle.batch_reader.proofs.Ordered.{OrderedFrom, Every, every-map, ranks-from}
 
 -- those that a test holds for
@@ -59,38 +61,52 @@ seam r s m [] h = refl
 seam r s m (k ∷ ks) h = seam-by r k ks (leb r (rank (k .code))) (leb (suc r) (rank (k .code))) refl refl (h .1) (seam r (rank (k .code)) (key (k .code) (k .operand)) ks (h .1))
 
 -- the kinds behind 01 in their order
-abbrev pub behind : List ℕ
-behind = DIGEST ∷ INPUT ∷ OUTPUT ∷ SAMPLED ∷ ROW ∷ OP-STACK ∷ RAM ∷ JUMP-STACK ∷ []
-
--- no two kinds have one rank
-test-by : (code wanted : ℕ) (same : Bool) → eqb code wanted ≡ same → code < 10 → wanted < 10 → eqb (rank code) (rank wanted) ≡ same
-test-by code wanted true e l m = eq-eqb (rank code) (rank wanted) (ap rank (eqb-true code wanted e))
-test-by code wanted false e l m = ne-eqb (rank code) (rank wanted) (λ q. eqb-false code wanted e (rank-injective code wanted l m q))
-
-abbrev pub Known : Command → Type 0
-Known k = (k .code < 10) × (k .code ≡ END → ⊥)
+abbrev pub behind : Form → List ℕ
+behind form = DIGEST ∷ INPUT ∷ OUTPUT ∷ SAMPLED ∷ rowCommand form ∷ OP-STACK ∷ RAM ∷ JUMP-STACK ∷ []
 
 -- only 00 has the last rank
-before-end : (code : ℕ) → code < 10 → (code ≡ END → ⊥) → rank code < 9
-before-end = of-each (λ code. (code ≡ END → ⊥) → rank code < 9) ((λ h. absurd (h refl)), ((λ h. lit< tt), ((λ h. lit< tt), ((λ h. lit< tt), ((λ h. lit< tt), ((λ h. lit< tt), ((λ h. lit< tt), ((λ h. lit< tt), ((λ h. lit< tt), ((λ h. lit< tt), tt))))))))))
-
--- the kinds of rank r and those behind it
-abbrev InLine : ℕ → List ℕ → Type 0
-InLine r [] = 9 ≤ r
-InLine r (code ∷ codes) = (code < 10) × (rank code ≡ r) × InLine (suc r) codes
+before-end : (code : ℕ) → code < COMMANDS → (code ≡ END → ⊥) → rank code < rank END
+before-end code l h = by-test (eqb code END) refl (of-test (λ c. eqb c END || ltb (rank c) (rank END)) refl code l)
+  where
+    by-test : (end : Bool) → eqb code END ≡ end → (end || ltb (rank code) (rank END)) ≡ true → rank code < rank END
+    by-test true e t = absurd (h (eqb-true code END e))
+    by-test false e t = ltb-true (rank code) (rank END) t
 
 abbrev pub kinds : List ℕ → List Command → List Command
 kinds [] ks = []
 kinds (code ∷ codes) ks = only code ks ++ kinds codes ks
 
-module _ (ks : List Command) (known : Every Known ks) (s m : ℕ) (h : OrderedFrom s m ks) where
-  kinds-from : (r : ℕ) (codes : List ℕ) → InLine r codes → from r ks ≡ kinds codes ks
-  kinds-from r [] l = those-none (λ k. leb r (rank (k .code))) ks (every-map Known (λ k. leb r (rank (k .code)) ≡ false) (λ k p. lt-leb r (rank (k .code)) (omega (arith, before-end (k .code) (p .0) (p .1)))) ks known)
-  kinds-from r (code ∷ codes) l =
-      let this : at r ks ≡ only code ks = those-alike (λ k. eqb (rank (k .code)) r) (λ k. eqb (k .code) code) ks (every-map Known (λ k. eqb (rank (k .code)) r ≡ eqb (k .code) code) (λ k p. rw (sym (l .1)) (test-by (k .code) code (eqb (k .code) code) refl (p .0) (l .0))) ks known) in
-      seam r s m ks h ∙ rw (this, kinds-from (suc r) codes (l .2))
+module _ (form : Form) where
+  abbrev pub Known : Command → Type 0
+  Known k = (k .code < COMMANDS) × (k .code ≡ END → ⊥) × OfForm form (k .code)
 
-  pub in-kinds : ks ≡ kinds (TRACE-ROWS ∷ behind) ks
-  in-kinds =
-      sym (those-all (λ k. leb 0 (rank (k .code))) ks (every-map Known (λ k. leb 0 (rank (k .code)) ≡ true) (λ k p. le-leb 0 (rank (k .code)) (omega arith)) ks known))
-      ∙ kinds-from 0 (TRACE-ROWS ∷ behind) (lit< tt, refl, (lit< tt, refl, (lit< tt, refl, (lit< tt, refl, (lit< tt, refl, (lit< tt, refl, (lit< tt, refl, (lit< tt, refl, (lit< tt, refl, lit≤ tt)))))))))
+  -- no two kinds of a form have one rank
+  test-by : (code wanted : ℕ) (same : Bool) → eqb code wanted ≡ same → code < COMMANDS → wanted < COMMANDS → OfForm form code → OfForm form wanted → eqb (rank code) (rank wanted) ≡ same
+  test-by code wanted true e l m f g = eq-eqb (rank code) (rank wanted) (ap rank (eqb-true code wanted e))
+  test-by code wanted false e l m f g = ne-eqb (rank code) (rank wanted) (λ q. eqb-false code wanted e (rank-injective form code wanted l m f g q))
+
+  -- the kinds of rank r and those behind it
+  abbrev InLine : ℕ → List ℕ → Type 0
+  InLine r [] = rank END ≤ r
+  InLine r (code ∷ codes) = (code < COMMANDS) × OfForm form code × (rank code ≡ r) × InLine (suc r) codes
+
+  module _ (ks : List Command) (known : Every Known ks) (s m : ℕ) (h : OrderedFrom s m ks) where
+    kinds-from : (r : ℕ) (codes : List ℕ) → InLine r codes → from r ks ≡ kinds codes ks
+    kinds-from r [] l = those-none (λ k. leb r (rank (k .code))) ks (every-map Known (λ k. leb r (rank (k .code)) ≡ false) (λ k p. lt-leb r (rank (k .code)) (omega (arith, before-end (k .code) (p .0) (p .1)))) ks known)
+    kinds-from r (code ∷ codes) l =
+        let this : at r ks ≡ only code ks = those-alike (λ k. eqb (rank (k .code)) r) (λ k. eqb (k .code) code) ks (every-map Known (λ k. eqb (rank (k .code)) r ≡ eqb (k .code) code) (λ k p. rw (sym (l .2)) (test-by (k .code) code (eqb (k .code) code) refl (p .0) (l .0) (p .2) (l .1))) ks known) in
+        seam r s m ks h ∙ rw (this, kinds-from (suc r) codes (l .3))
+
+    pub in-kinds : ks ≡ kinds (TRACE-ROWS ∷ behind form) ks
+    in-kinds =
+        sym (those-all (λ k. leb 0 (rank (k .code))) ks (every-map Known (λ k. leb 0 (rank (k .code)) ≡ true) (λ k p. le-leb 0 (rank (k .code)) (omega arith)) ks known))
+        ∙ kinds-from 0 (TRACE-ROWS ∷ behind form) in-line
+      where
+        any : (code : ℕ) → (eqb code ROW || eqb code MONTGOMERY-ROW) ≡ false → OfForm form code
+        any = of-any form
+
+        from-rows : InLine 5 (rowCommand form ∷ OP-STACK ∷ RAM ∷ JUMP-STACK ∷ [])
+        from-rows = (row-known form, row-of form, row-rank form, (lit< tt, any OP-STACK refl, refl, (lit< tt, any RAM refl, refl, (lit< tt, any JUMP-STACK refl, refl, lit≤ tt))))
+
+        in-line : InLine 0 (TRACE-ROWS ∷ behind form)
+        in-line = (lit< tt, any TRACE-ROWS refl, refl, (lit< tt, any DIGEST refl, refl, (lit< tt, any INPUT refl, refl, (lit< tt, any OUTPUT refl, refl, (lit< tt, any SAMPLED refl, refl, from-rows)))))

@@ -13,10 +13,17 @@ use Rattle.batch_words.specs.Words.{number, littleEndian}
 use Rattle.batch_words.proofs.Writing.{littleEndian-number}
 use Rattle.batch_commands.specs.Format.{END, TRACE-ROWS, ROW, OP-STACK, RAM, JUMP-STACK, SAMPLED, DIGEST, INPUT, OUTPUT, width, Command, laidOut}
 use Rattle.batch_commands.proofs.Laid.{laid-append}
-use Rattle.batch_reader.specs.Commands.{count, contents, announced}
+use Rattle.field_montgomery.specs.declared.Form.{Form}
+use Rattle.field_montgomery.specs.declared.Form.the-variants.{Plain, Montgomery}
+use Rattle.field_montgomery.specs.Form.{inForm}
+use Rattle.batch_commands.specs.Form.{rowCommand, otherForm, OfForm}
+use Rattle.batch_commands.proofs.Tables.{row-known, row-limit}
+use Rattle.batch_reader.specs.Commands.{count, contents, formOf, sliceFrom, announced}
 use Rattle.batch_reader.specs.Reading.{read, reading}
 use Rattle.batch_reader.proofs.Commands.{length-contents}
-use Rattle.batch_reader.proofs.Ordered.{Ordered, Every, every-map, ordered-parts}
+use Rattle.batch_reader.proofs.Forms.{none-there, rows-counted}
+use Rattle.batch_reader.proofs.Rows.{length-rows}
+use Rattle.batch_reader.proofs.Ordered.{Ordered, Every, every-map, every-both, ordered-parts}
 use Rattle.batch_reader.proofs.LaidOut.{end, laid}
 use Rattle.batch_writer.specs.Contents.{Contents, contentsOf}
 use Rattle.batch_writer.specs.Layout.{commandsFor, batchOf}
@@ -24,13 +31,14 @@ use Rattle.terms_batches.specs.Opening.{Bytes}
 use Rattle.terms_batches.proofs.ByKind.{Known, only, kinds, behind, in-kinds}
 use Rattle.terms_batches.proofs.OneKind.{Sized, kind-is}
 use Rattle.terms_batches.proofs.Sections.{Section, section, joined, sectionsOf, announcing, commands-of}
-use Rattle.terms_batches.proofs.Sound.{Proper, Starts, Sound, sound}
+use Rattle.terms_batches.proofs.Sound.{Proper, contents-below, Starts, Sound, sound}
+use Rattle.field_montgomery.proofs.Many.{in-form-plain}
 use Rattle.terms_batches.proofs.Differences.{sorted-already}
 
 -- what commands bring
 abbrev pub contentsIn : List Command → Contents
 contentsIn ks =
-    contentsOf (contents ROW ks) (contents OP-STACK ks) (contents RAM ks) (contents JUMP-STACK ks) (contents SAMPLED ks) (contents DIGEST ks) (contents INPUT ks) (contents OUTPUT ks)
+    contentsOf (sliceFrom ROW ks) (contents OP-STACK ks) (contents RAM ks) (contents JUMP-STACK ks) (contents SAMPLED ks) (contents DIGEST ks) (contents INPUT ks) (contents OUTPUT ks)
 
 bytes-parts : (bs cs : List ℕ) → Bytes (bs ++ cs) → Bytes bs × Bytes cs
 bytes-parts bs cs h = (
@@ -71,7 +79,14 @@ sectionIn ks code = section (count code ks) code (contents code ks)
 abbrev Even : ℕ → Type 0
 Even code = 8 * (width code / 8) ≡ width code
 
-module _ (ks : List Command) (s : Sound ks) (sized : Every Sized ks) where
+even-row : (form : Form) → Even (rowCommand form)
+even-row Plain = refl
+even-row Montgomery = refl
+
+module _ (ks : List Command) (s : Sound (formOf ks) ks) (sized : Every Sized ks) where
+  abbrev form : Form
+  form = formOf ks
+
   kinds-joined : (codes : List ℕ) → Every Even codes → kinds codes ks ≡ joined (map (sectionIn ks) codes)
   kinds-joined [] h = refl
   kinds-joined (code ∷ codes) h = rw (kind-is code (h .0) ks sized, kinds-joined codes (h .1))
@@ -79,14 +94,18 @@ module _ (ks : List Command) (s : Sound ks) (sized : Every Sized ks) where
   in-order : Ordered ks
   in-order = ordered-parts 0 0 ks (end ∷ []) (s .in-order) .0
 
-  all-rows : rows (contents ROW ks) ≡ count ROW ks
-  all-rows = omega (arith, length-contents ROW ks)
+  all-rows : rows (sliceFrom ROW ks) ≡ count (rowCommand form) ks
+  all-rows = omega (arith, length-rows ks, rows-counted ks)
+
+  -- the rows' words are sent as they came
+  as-sent : inForm form (sliceFrom ROW ks) ≡ contents (rowCommand form) ks
+  as-sent = in-form-plain form (contents (rowCommand form) ks) (contents-below (rowCommand form) ks (s .each))
 
   -- a kind of one word each
   length-is : (code : ℕ) → width code / 8 ≡ 1 → length (contents code ks) ≡ count code ks
   length-is code e = length-contents code ks ∙ rw e (omega arith)
 
-  sections-are : map (sectionIn ks) behind ≡ sectionsOf (contentsIn ks)
+  sections-are : map (sectionIn ks) (behind form) ≡ sectionsOf form (contentsIn ks)
   sections-are =
       let digests : count DIGEST ks ≡ 1 = omega (arith, s .digest, s .within DIGEST (lit< tt)) in
       let sampled : count SAMPLED ks ≡ 1 = omega (arith, s .sampled, s .within SAMPLED (lit< tt)) in
@@ -94,6 +113,7 @@ module _ (ks : List Command) (s : Sound ks) (sized : Every Sized ks) where
         digests,
         sampled,
         all-rows,
+        as-sent,
         length-is INPUT refl,
         length-is OUTPUT refl,
         length-is OP-STACK refl,
@@ -104,15 +124,16 @@ module _ (ks : List Command) (s : Sound ks) (sized : Every Sized ks) where
         sorted-already JUMP-STACK refl refl ks in-order,
       )
 
-  commands-are : ks ++ (end ∷ []) ≡ commandsFor (contentsIn ks)
+  commands-are : ks ++ (end ∷ []) ≡ commandsFor form (contentsIn ks)
   commands-are =
-      let known = every-map Proper Known (λ k p. (p .known, p .more)) ks (s .each) in
-      let announced-all : announced ks ≡ rows (contents ROW ks) = omega (arith, all-rows, s .all-rows, s .within ROW (lit< tt)) in
-      let first : only TRACE-ROWS ks ≡ announcing (rows (contents ROW ks)) ∷ [] = first-is ks (s .starts) (s .within TRACE-ROWS (lit< tt)) sized ∙ ap (λ n. announcing n ∷ []) announced-all in
-      let rest : kinds behind ks ≡ joined (sectionsOf (contentsIn ks)) = kinds-joined behind (refl, (refl, (refl, (refl, (refl, (refl, (refl, (refl, tt)))))))) ∙ ap joined sections-are in
-      ap (λ l. l ++ (end ∷ [])) (in-kinds ks known 0 0 in-order) ∙ ap₂ (λ us vs. (us ++ vs) ++ (end ∷ [])) first rest ∙ sym (commands-of (contentsIn ks))
+      let in-form = every-both Proper (λ k. OfForm form (k .code)) ks (s .each) (none-there (rowCommand (otherForm form)) ks (s .one-form)) in
+      let known = every-map _ (Known form) (λ k p. (p .0 .known, p .0 .more, p .1)) ks in-form in
+      let announced-all : announced ks ≡ rows (sliceFrom ROW ks) = omega (arith, all-rows, s .all-rows, s .within (rowCommand form) (row-known form), row-limit (announced ks) form) in
+      let first : only TRACE-ROWS ks ≡ announcing (rows (sliceFrom ROW ks)) ∷ [] = first-is ks (s .starts) (s .within TRACE-ROWS (lit< tt)) sized ∙ ap (λ n. announcing n ∷ []) announced-all in
+      let rest : kinds (behind form) ks ≡ joined (sectionsOf form (contentsIn ks)) = kinds-joined (behind form) (refl, (refl, (refl, (refl, (even-row form, (refl, (refl, (refl, tt)))))))) ∙ ap joined sections-are in
+      ap (λ l. l ++ (end ∷ [])) (in-kinds form ks known 0 0 in-order) ∙ ap₂ (λ us vs. (us ++ vs) ++ (end ∷ [])) first rest ∙ sym (commands-of form (contentsIn ks))
 
-pub canonical : (batch : List ℕ) (ks : List Command) → reading batch ≡ read ks → Bytes batch → batch ≡ batchOf (contentsIn ks)
+pub canonical : (batch : List ℕ) (ks : List Command) → reading batch ≡ read ks → Bytes batch → batch ≡ batchOf (formOf ks) (contentsIn ks)
 unfolding batchOf
 canonical batch ks e b =
     let l = laid batch ks e in

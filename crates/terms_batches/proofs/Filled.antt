@@ -12,7 +12,7 @@ use Rattle.field_base.specs.Words.{allBelow}
 use Rattle.field_base.proofs.Below.{below-take, below-drop}
 use Rattle.batch_words.specs.Words.{words, bytesOf}
 use Rattle.batch_words.proofs.Writing.{length-bytesOf, words-below-bytesOf}
-use Rattle.batch_commands.specs.Format.{END, width, wordsIn}
+use Rattle.batch_commands.specs.Format.{END, COMMANDS, width, wordsIn}
 use Rattle.batch_reader.specs.Commands.{count, contents}
 use Rattle.batch_reader.proofs.Ordered.{Every}
 use Rattle.batch_writer.specs.Layout.{commandsWith}
@@ -37,7 +37,7 @@ module _ (code : ℕ) where
   pub filled-rest : (n : ℕ) (ws : List ℕ) → Filled (suc n) code ws → Filled n code (drop w ws)
   filled-rest n ws f = record { exact = omega (arith, f .exact, suc-mul n w, length-drop w ws); below = below-drop w ws (f .below) }
 
-  module _ (known : code < 10) (more : code ≡ END → ⊥) (even : 8 * (width code / 8) ≡ width code) where
+  module _ (known : code < COMMANDS) (more : code ≡ END → ⊥) (even : 8 * (width code / 8) ≡ width code) where
     pub each-with : (n : ℕ) (ws : List ℕ) → Filled n code ws → Every Proper (commandsWith n code ws)
     unfolding commandsWith
     each-with zero ws f = tt

@@ -9,7 +9,7 @@ use lib.ListN.{take, drop}
 use Rattle.field_base.specs.Words.{allBelow}
 use Rattle.field_base.proofs.Below.{below-take}
 use Rattle.batch_words.specs.Words.{number, bytesOf}
-use Rattle.batch_commands.specs.Format.{END, width, keyWidth, key, rank, Command}
+use Rattle.batch_commands.specs.Format.{END, COMMANDS, width, keyWidth, key, rank, Command}
 use Rattle.batch_reader.specs.Commands.{count, contents}
 use Rattle.batch_reader.proofs.Commands.{count-append, contents-append}
 use Rattle.batch_reader.proofs.Ordered.{OrderedFrom, Every, every-append, ordered-since}
@@ -55,7 +55,7 @@ keyed m (suc n) code (x ∷ xs) wide e f a js h =
     rw (one, k) ((omega arith, λ q. a .0), keyed x n code xs wide e rest (a .1) js h)
 
 pub record Fits (s : Section) : Type 0 where
-  pub known : s .code < 10
+  pub known : s .code < COMMANDS
   pub more : s .code ≡ END → ⊥
   pub even : 8 * (width (s .code) / 8) ≡ width (s .code)
   pub filled : Filled (s .n) (s .code) (s .ws)

@@ -16,10 +16,11 @@ use Rattle.batch_commands.specs.Format.{MAX-DIFFERENCES, MAX-WORDS, ROW, OP-STA
 use Rattle.batch_reader.specs.declared.Counts.{Counts}
 use Rattle.batch_reader.specs.declared.OpenAnswer.{OpenAnswer}
 use Rattle.batch_reader.specs.declared.OpenAnswer.the-variants.{Opened, Refused}
-use Rattle.batch_reader.specs.Commands.{counts, contents}
+use Rattle.batch_reader.specs.Commands.{counts, sliceFrom}
 use Rattle.batch_reader.specs.Reading.{Reading, read, refused, reading}
 use Rattle.batch_reader.specs.Answers.{countsIn, answerOf, brought}
 use Rattle.batch_reader.proofs.Commands.{length-contents}
+use Rattle.batch_reader.proofs.Rows.{length-rows}
 use Rattle.batch.specs.Open.{MAX-BYTES, TRACE-WORDS, rightLengths, openAnswer, openSlice}
 use Rattle.batch_writer.specs.Contents.{Contents}
 use Rattle.terms_batches.specs.Opening.{opened, slicesAfter, upTo}
@@ -65,22 +66,22 @@ module _ (batch : List ℕ) (lent : Contents) (came : Counts) (e : opened batch 
   abbrev o : Opens batch lent came
   o = opening
 
-  slice-is : (code : ℕ) (slice : List ℕ) → openSlice (opened batch lent) code batch slice ≡ contents code (o .ks) ++ drop (length (contents code (o .ks))) slice
+  slice-is : (code : ℕ) (slice : List ℕ) → openSlice (opened batch lent) code batch slice ≡ sliceFrom code (o .ks) ++ drop (length (sliceFrom code (o .ks))) slice
   unfolding openSlice brought
   slice-is code slice = rw (e, o .is-read)
 
-  up-to : (code n : ℕ) (slice : List ℕ) → length (contents code (o .ks)) ≡ n → take n (openSlice (opened batch lent) code batch slice) ≡ contents code (o .ks)
-  up-to code n slice l = rw (slice-is code slice) (take-at (contents code (o .ks)) (drop (length (contents code (o .ks))) slice) n l)
+  up-to : (code n : ℕ) (slice : List ℕ) → length (sliceFrom code (o .ks)) ≡ n → take n (openSlice (opened batch lent) code batch slice) ≡ sliceFrom code (o .ks)
+  up-to code n slice l = rw (slice-is code slice) (take-at (sliceFrom code (o .ks)) (drop (length (sliceFrom code (o .ks))) slice) n l)
 
-  whole : (code : ℕ) (slice : List ℕ) → length slice ≡ length (contents code (o .ks)) → openSlice (opened batch lent) code batch slice ≡ contents code (o .ks)
-  whole code slice l = slice-is code slice ∙ rw (drop-of-length-le slice {i = length (contents code (o .ks))} (omega arith)) (append-nil (contents code (o .ks)))
+  whole : (code : ℕ) (slice : List ℕ) → length slice ≡ length (sliceFrom code (o .ks)) → openSlice (opened batch lent) code batch slice ≡ sliceFrom code (o .ks)
+  whole code slice l = slice-is code slice ∙ rw (drop-of-length-le slice {i = length (sliceFrom code (o .ks))} (omega arith)) (append-nil (sliceFrom code (o .ks)))
 
   pub left-in-slices : upTo came (slicesAfter batch lent) ≡ contentsIn (o .ks)
   left-in-slices =
       let ks = o .ks in
       let s = sound batch ks (o .is-read) in
       let lengths = whole-lengths (lent .trace) (lent .op-stack) (lent .ram) (lent .jump-stack) (lent .sampled) (lent .digest) (lent .input) (lent .output) (o .right) in
-      let trace = up-to ROW (came .rows * MAIN-WIDTH) (lent .trace) (omega (arith, length-contents ROW ks, ap (λ c. c .rows) (o .came-is))) in
+      let trace = up-to ROW (came .rows * MAIN-WIDTH) (lent .trace) (omega (arith, length-rows ks, ap (λ c. c .rows) (o .came-is))) in
       let op-stack = up-to OP-STACK (came .«op_stack») (lent .op-stack) (omega (arith, length-contents OP-STACK ks, ap (λ c. c .«op_stack») (o .came-is))) in
       let ram = up-to RAM (came .ram) (lent .ram) (omega (arith, length-contents RAM ks, ap (λ c. c .ram) (o .came-is))) in
       let jump-stack = up-to JUMP-STACK (came .«jump_stack») (lent .jump-stack) (omega (arith, length-contents JUMP-STACK ks, ap (λ c. c .«jump_stack») (o .came-is))) in

@@ -1,6 +1,6 @@
 -- What holds of the commands of a batch that is read, and that a batch of such commands is read.
-use mathlib.Core.Path.{_≡_, refl}
-use mathlib.Core.Bool.{true, false, not, _&&_, _||_}
+use mathlib.Core.Path.{_≡_, refl, ap, _∙_}
+use mathlib.Core.Bool.{Bool, true, false, cond, not, _&&_, _||_}
 use mathlib.Core.List.{List, [], _∷_, _++_, append-assoc}
 use Prim.Native.Nat.{ℕ, _≤_, _<_}
 use native.Mathlib.Omega.{arith}
@@ -9,38 +9,52 @@ use lib.ListN.{length, take}
 use lib.Seq.{take-all}
 use borrow.Author.Tests.{ltb-false, le-ltb, leb-true, le-leb, eqb-true, eqb-false, eq-eqb, ne-eqb, not-false}
 use Rattle.field_base.specs.Words.{allBelow}
-use Rattle.field_base.proofs.Below.{and-true}
+use Rattle.field_base.proofs.Below.{and-true, below-append}
 use Rattle.refusal.proofs.Answers.{or-false}
 use Rattle.batch_words.specs.Words.{number, words}
-use Rattle.batch_commands.specs.Format.{END, TRACE-ROWS, ROW, SAMPLED, DIGEST, MAX-ROWS, width, wordsIn, rank, key, Command}
-use Rattle.batch_commands.specs.Fault.{limit, missing, wrongRowCount}
-use Rattle.batch_reader.specs.Commands.{count, counts, announced, highestRank, lastKey, seenIn}
+use Rattle.batch_commands.specs.Format.{END, TRACE-ROWS, SAMPLED, DIGEST, MAX-ROWS, COMMANDS, width, wordsIn, wordsFor, rank, key, Command}
+use Rattle.field_montgomery.specs.declared.Form.{Form}
+use Rattle.batch_commands.specs.Form.{rowCommand, otherForm, OfForm}
+use Rattle.batch_commands.specs.Fault.{limit, rowsIn, missing, wrongRowCount}
+use Rattle.batch_reader.specs.Commands.{count, counts, contents, formOf, announced, highestRank, lastKey, seenIn}
 use Rattle.batch_reader.specs.Reading.{read, reading}
-use Rattle.batch_reader.proofs.Commands.{count-append, count-at}
+use Rattle.batch_reader.proofs.Commands.{count-append, count-at, count-past}
+use Rattle.batch_reader.proofs.Forms.{one-form, form-is, rows-counted, no-mixture}
 use Rattle.batch_reader.proofs.Bounds.{bounded}
 use Rattle.batch_reader.proofs.Passing.{Passes}
-use Rattle.batch_reader.proofs.Ordered.{Ordered, Every, highest, ordered, ordered-append, ordered-parts, not-before, not-before-test}
+use Rattle.batch_reader.proofs.Ordered.{Ordered, Every, every-at, highest, ordered, ordered-append, ordered-parts, not-before, not-before-test}
 use Rattle.batch_reader.proofs.LaidOut.{Next, end, Faultless, laid}
 
 pub record Proper (k : Command) : Type 0 where
-  pub known : k .code < 10
+  pub known : k .code < COMMANDS
   pub more : k .code ≡ END → ⊥
   pub whole : length (k .operand) ≡ width (k .code)
   pub below : allBelow (wordsIn (k .code) (k .operand)) ≡ true
+
+pub contents-below : (code : ℕ) (ks : List Command) → Every Proper ks → allBelow (contents code ks) ≡ true
+unfolding contents allBelow
+contents-below code [] h = refl
+contents-below code (k ∷ ks) h = below-append (wordsFor code (k .code) (k .operand)) (contents code ks) (kind-below (eqb (k .code) code)) (contents-below code ks (h .1))
+  where
+    kind-below : (same : Bool) → allBelow (cond same (wordsIn (k .code) (k .operand)) []) ≡ true
+    kind-below true = h .0 .below
+    kind-below false = refl
 
 -- 01 stands first
 abbrev pub Starts : List Command → Type 0
 Starts [] = ⊥
 Starts (k ∷ ks) = k .code ≡ TRACE-ROWS
 
-pub record Sound (ks : List Command) : Type 0 where
+-- with rows in the form
+pub record Sound (form : Form) (ks : List Command) : Type 0 where
   pub starts : Starts ks
   pub some-rows : 1 ≤ announced ks
   pub few-rows : announced ks ≤ 32
   pub each : Every Proper ks
   pub in-order : Ordered (ks ++ (end ∷ []))
-  pub within : (code : ℕ) → code < 10 → count code ks ≤ limit (announced ks) code
-  pub all-rows : announced ks ≤ count ROW ks
+  pub within : (code : ℕ) → code < COMMANDS → count code ks ≤ limit (announced ks) code
+  pub all-rows : announced ks ≤ count (rowCommand form) ks
+  pub one-form : count (rowCommand (otherForm form)) ks ≡ 0
   pub sampled : 1 ≤ count SAMPLED ks
   pub digest : 1 ≤ count DIGEST ks
 
@@ -66,7 +80,7 @@ some-by (k ∷ ks) h s =
     let v = and-true (leb 1 n) (leb n MAX-ROWS) (not-false (leb 1 n && leb n MAX-ROWS) t) in
     rw (take-all (width (k .code)) (k .operand) (omega (arith, h .0 .whole))) at (leb-true 1 n (v .0))
 
-pub sound : (batch : List ℕ) (ks : List Command) → reading batch ≡ read ks → Sound ks
+pub sound : (batch : List ℕ) (ks : List Command) → reading batch ≡ read ks → Sound (formOf ks) ks
 unfolding key number
 sound batch ks e =
     let l = laid batch ks e in
@@ -74,8 +88,8 @@ sound batch ks e =
     let s = starts-by ks (l .faultless) c in
     let b = bounded batch ks e in
     let none = or-false (missing (announced ks) (counts ks)) false (c .at-end) .0 in
-    let f = or-false (ltb (count ROW ks) (announced ks) || eqb (count SAMPLED ks) 0) (eqb (count DIGEST ks) 0) none in
-    let g = or-false (ltb (count ROW ks) (announced ks)) (eqb (count SAMPLED ks) 0) (f .0) in
+    let f = or-false (ltb (rowsIn (counts ks)) (announced ks) || eqb (count SAMPLED ks) 0) (eqb (count DIGEST ks) 0) none in
+    let g = or-false (ltb (rowsIn (counts ks)) (announced ks)) (eqb (count SAMPLED ks) 0) (f .0) in
     record {
       starts = s;
       some-rows = some-by ks (l .faultless) s;
@@ -83,23 +97,21 @@ sound batch ks e =
       each = each-proper [] ks (l .faultless);
       in-order = let o = ordered batch ks e in ordered-append 0 0 ks (end ∷ []) o (rw (highest ks o) at (not-before (highestRank ks) (lastKey 0 ks) 9 0 (c .in-order)), tt);
       within = b .within;
-      all-rows = ltb-false (count ROW ks) (announced ks) (g .0);
+      all-rows = rw (rows-counted ks) at (ltb-false (rowsIn (counts ks)) (announced ks) (g .0));
+      one-form = one-form batch ks e;
       sampled = let z = eqb-false (count SAMPLED ks) 0 (g .1) in omega arith;
       digest = let z = eqb-false (count DIGEST ks) 0 (f .1) in omega arith;
     }
 
-every-at : (P : Command → Type 0) (before : List Command) (k : Command) (after : List Command) → Every P (before ++ k ∷ after) → P k
-every-at P [] k after h = h .0
-every-at P (j ∷ before) k after h = every-at P before k after (h .1)
-
--- one more than before it
-count-past : (code : ℕ) (before : List Command) (k : Command) (after : List Command) → k .code ≡ code → count code before < count code (before ++ k ∷ after)
-unfolding count
-count-past code before k after e = rw (count-append code before (k ∷ after), eq-eqb (k .code) code e) (omega arith)
-
-module _ (before : List Command) (k : Command) (after : List Command) (s : Sound (before ++ k ∷ after)) where
+module _ (form : Form) (before : List Command) (k : Command) (after : List Command) (s : Sound form (before ++ k ∷ after)) where
   proper : Proper k
   proper = every-at Proper before k after (s .each)
+
+  none-before : count (rowCommand (otherForm form)) before ≡ 0
+  none-before = omega (arith, s .one-form, count-append (rowCommand (otherForm form)) before (k ∷ after))
+
+  of-form : OfForm form (k .code)
+  of-form e = omega (arith, s .one-form, count-past (rowCommand (otherForm form)) before k after e)
 
   -- once its place and its rows are right
   next-by : (eqb (count TRACE-ROWS before) 0 && not (eqb (k .code) TRACE-ROWS)) ≡ false → count (k .code) before < limit (announced before) (k .code)
@@ -114,6 +126,7 @@ module _ (before : List Command) (k : Command) (after : List Command) (s : Sound
           whole = omega (arith, proper .whole);
           after-first = first;
           under = rw (count-at before (k .code) (proper .known)) under;
+          unmixed = no-mixture form before (k .code) none-before of-form;
           at-end = rw (ne-eqb (k .code) END (proper .more));
           in-order = not-before-test (highestRank before) (lastKey 0 before) (rank (k .code)) (key (k .code) (k .operand)) (rw (highest before (o .0)) (o .1 .0));
           row-count = row-count;
@@ -121,9 +134,9 @@ module _ (before : List Command) (k : Command) (after : List Command) (s : Sound
         };
       }
 
-next-first : (k : Command) (ks : List Command) → Sound (k ∷ ks) → Next [] k
+next-first : (form : Form) (k : Command) (ks : List Command) → Sound form (k ∷ ks) → Next [] k
 unfolding count
-next-first k ks s = next-by [] k ks s (rw (eq-eqb (k .code) TRACE-ROWS (s .starts))) (rw (s .starts) (lit< tt))
+next-first form k ks s = next-by form [] k ks s (rw (eq-eqb (k .code) TRACE-ROWS (s .starts))) (rw (s .starts) (lit< tt))
     (rw (take-all (width (k .code)) (k .operand) (omega (arith, every-at Proper [] k ks (s .each) .whole)), eq-eqb (k .code) TRACE-ROWS (s .starts), le-leb 1 (number (k .operand)) (s .some-rows), le-leb (number (k .operand)) MAX-ROWS (s .few-rows)))
 
 one-first : (ks : List Command) → Starts ks → 1 ≤ count TRACE-ROWS ks
@@ -131,20 +144,20 @@ unfolding count
 one-first [] s = absurd s
 one-first (k ∷ ks) s = rw (eq-eqb (k .code) TRACE-ROWS s) (omega arith)
 
-next-later : (j : Command) (before : List Command) (k : Command) (after : List Command) → Sound (j ∷ before ++ k ∷ after) → Next (j ∷ before) k
-next-later j before k after s =
+next-later : (form : Form) (j : Command) (before : List Command) (k : Command) (after : List Command) → Sound form (j ∷ before ++ k ∷ after) → Next (j ∷ before) k
+next-later form j before k after s =
     let one = one-first (j ∷ before) (s .starts) in
     let other : k .code ≡ TRACE-ROWS → ⊥ = λ e. omega (arith, s .within TRACE-ROWS (lit< tt), count-past TRACE-ROWS (j ∷ before) k after e) in
-    next-by (j ∷ before) k after s (rw (ne-eqb (count TRACE-ROWS (j ∷ before)) 0 (λ e. omega arith)))
-    (omega (arith, s .within (k .code) (proper (j ∷ before) k after s .known), count-past (k .code) (j ∷ before) k after refl)) (rw (ne-eqb (k .code) TRACE-ROWS other))
+    next-by form (j ∷ before) k after s (rw (ne-eqb (count TRACE-ROWS (j ∷ before)) 0 (λ e. omega arith)))
+    (omega (arith, s .within (k .code) (proper form (j ∷ before) k after s .known), count-past (k .code) (j ∷ before) k after refl)) (rw (ne-eqb (k .code) TRACE-ROWS other))
 
-nexts : (j : Command) (before ks : List Command) → Sound (j ∷ before ++ ks) → Faultless (j ∷ before) ks
-nexts j before [] s = tt
-nexts j before (k ∷ ks) s = (next-later j before k ks s, nexts j (before ++ (k ∷ [])) ks (rw append-assoc s))
+nexts : (form : Form) (j : Command) (before ks : List Command) → Sound form (j ∷ before ++ ks) → Faultless (j ∷ before) ks
+nexts form j before [] s = tt
+nexts form j before (k ∷ ks) s = (next-later form j before k ks s, nexts form j (before ++ (k ∷ [])) ks (rw append-assoc s))
 
-pub faultless : (ks : List Command) → Sound ks → Faultless [] ks
-faultless [] s = tt
-faultless (k ∷ ks) s = (next-first k ks s, nexts k [] ks s)
+pub faultless : (form : Form) (ks : List Command) → Sound form ks → Faultless [] ks
+faultless form [] s = tt
+faultless form (k ∷ ks) s = (next-first form k ks s, nexts form k [] ks s)
 
 -- 00 stands nowhere before the end
 no-end : (ks : List Command) → Every Proper ks → count END ks ≡ 0
@@ -152,16 +165,24 @@ unfolding count
 no-end [] h = refl
 no-end (k ∷ ks) h = rw (ne-eqb (k .code) END (h .0 .more), no-end ks (h .1))
 
-pub complete : (ks : List Command) → Sound ks → Passes (seenIn ks) END []
+-- the form is that of the rows
+pub form-of : (form : Form) (ks : List Command) → Sound form ks → formOf ks ≡ form
+form-of form ks s = form-is form ks (omega (arith, s .some-rows, s .all-rows)) (s .one-form)
+
+pub rows-of : (form : Form) (ks : List Command) → Sound form ks → rowsIn (counts ks) ≡ count (rowCommand form) ks
+rows-of form ks s = rows-counted ks ∙ ap (λ f. count (rowCommand f) ks) (form-of form ks s)
+
+pub complete : (form : Form) (ks : List Command) → Sound form ks → Passes (seenIn ks) END []
 unfolding key number words allBelow
-complete ks s =
+complete form ks s =
     let one = one-first ks (s .starts) in
     record {
       known = lit< tt;
       whole = lit≤ tt;
       after-first = rw (ne-eqb (count TRACE-ROWS ks) 0 (λ e. omega arith));
       under = rw (no-end ks (s .each)) (lit< tt);
-      at-end = let n = s .sampled in let m = s .digest in rw (le-ltb (count ROW ks) (announced ks) (s .all-rows), ne-eqb (count SAMPLED ks) 0 (λ e. omega arith), ne-eqb (count DIGEST ks) 0 (λ e. omega arith));
+      unmixed = refl;
+      at-end = let n = s .sampled in let m = s .digest in rw (le-ltb (rowsIn (counts ks)) (announced ks) (omega (arith, rows-of form ks s, s .all-rows)), ne-eqb (count SAMPLED ks) 0 (λ e. omega arith), ne-eqb (count DIGEST ks) 0 (λ e. omega arith));
       in-order = let o = ordered-parts 0 0 ks (end ∷ []) (s .in-order) in not-before-test (highestRank ks) (lastKey 0 ks) 9 0 (rw (highest ks (o .0)) (o .1 .0));
       row-count = refl;
       below = refl;

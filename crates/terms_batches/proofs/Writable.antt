@@ -12,6 +12,7 @@ use Rattle.refusal.specs.declared.Refusal.the-variants.{SliceLength, RowCount, 
 use Rattle.refusal.proofs.Answers.{past}
 use Rattle.table_rows.specs.Rows.{rows}
 use Rattle.batch_commands.specs.Format.{MAX-ROWS}
+use Rattle.field_montgomery.specs.declared.Form.{Form}
 use Rattle.batch_writer.specs.Contents.{Contents}
 use Rattle.batch_writer.specs.Write.{rightLengths, allWordsBelow, writeAnswer}
 use Rattle.batch_writer.proofs.Lengths.{Right, right, all-right}
@@ -31,7 +32,7 @@ pub record Writable (contents : Contents) (n : ℕ) : Type 0 where
   pub input : allBelow (contents .input) ≡ true
   pub output : allBelow (contents .output) ≡ true
 
-module _ (contents : Contents) (n : ℕ) where
+module _ (form : Form) (contents : Contents) (n : ℕ) where
   abbrev lists : List Bool
   lists =
       allBelow (contents .op-stack)
@@ -43,17 +44,17 @@ module _ (contents : Contents) (n : ℕ) where
       ∷ allBelow (contents .output)
       ∷ []
 
-  pub writable : writeAnswer contents n ≡ Done → Writable contents n
+  pub writable : writeAnswer form contents n ≡ Done → Writable contents n
   unfolding writeAnswer
   writable e =
       let count = rows (contents .trace) in
-      let a = past (not (rightLengths contents n)) SliceLength _ e in
+      let a = past (not (rightLengths form contents n)) SliceLength _ e in
       let b = past (not (leb 1 count && leb count MAX-ROWS)) RowCount _ (a .1) in
       let c = past (not (allWordsBelow contents)) WordNotBelowP _ (b .1) in
       let r = and-true (leb 1 count) (leb count MAX-ROWS) (not-false (leb 1 count && leb count MAX-ROWS) (b .0)) in
       let w = all-true (allBelow (contents .trace)) lists (not-false (allWordsBelow contents) (c .0)) in
       record {
-        lengths = right contents n (not-false (rightLengths contents n) (a .0));
+        lengths = right contents form n (not-false (rightLengths form contents n) (a .0));
         some-rows = leb-true 1 count (r .0);
         few-rows = leb-true count MAX-ROWS (r .1);
         trace = w .0;
@@ -66,7 +67,7 @@ module _ (contents : Contents) (n : ℕ) where
         output = w .1 .1 .1 .1 .1 .1 .1 .0;
       }
 
-  pub done : Writable contents n → writeAnswer contents n ≡ Done
+  pub done : Writable contents n → writeAnswer form contents n ≡ Done
   done w =
       let below = true-all (allBelow (contents .trace)) lists (w .trace) (w .op-stack, (w .ram, (w .jump-stack, (w .sampled, (w .digest, (w .input, (w .output, tt))))))) in
-      sym (all-done contents n (sym (all-right contents n (w .lengths))) (w .some-rows) (w .few-rows) below)
+      sym (all-done form contents n (sym (all-right contents form n (w .lengths))) (w .some-rows) (w .few-rows) below)

@@ -1,29 +1,35 @@
 -- What the writer writes is read: its commands, and then what opening it leaves.
 use mathlib.Core.Path.{_≡_, refl, sym, ap, _∙_}
-use mathlib.Core.Bool.{Bool, true, false, cond}
+use mathlib.Core.Bool.{true, false, cond, _||_}
+use mathlib.Core.Logic.{_⊎_, inl, inr, ⊎-elim}
 use mathlib.Core.List.{List, [], _∷_, _++_, append-nil}
 use Prim.Native.Nat.{ℕ, _+_, _*_, _/_, _%_, _≤_, _<_}
 use native.Mathlib.Nat.{zero-add, add-zero, mul-one}
 use native.Mathlib.Omega.{arith}
 use lib.Dec.{eqb, lit<, lit≤}
 use lib.ListN.{length}
-use borrow.Author.Tests.{le-ltb}
+use borrow.Author.Tests.{le-ltb, ne-eqb}
 use Rattle.field_base.specs.Words.{allBelow}
-use Rattle.field_base.proofs.Below.{below-append}
+use Rattle.field_montgomery.specs.Form.{inForm}
 use Rattle.air.specs.MainColumn.{MAIN-WIDTH}
 use Rattle.air.specs.ChallengeId.{SAMPLED-WORDS, DIGEST-WORDS}
 use Rattle.table_rows.specs.Rows.{rows}
 use Rattle.batch_words.specs.Words.{words, littleEndian}
 use Rattle.batch_words.proofs.Writing.{length-littleEndian, number-littleEndian}
-use Rattle.batch_commands.specs.Format.{END, TRACE-ROWS, ROW, OP-STACK, RAM, JUMP-STACK, SAMPLED, DIGEST, INPUT, OUTPUT, width, keyWidth, key, wordsIn, wordsFor, Command, laidOut}
+use Rattle.batch_commands.specs.Format.{END, TRACE-ROWS, ROW, OP-STACK, RAM, JUMP-STACK, SAMPLED, DIGEST, INPUT, OUTPUT, MONTGOMERY-ROW, COMMANDS, width, keyWidth, key, Command, laidOut}
 use Rattle.batch_commands.specs.Fault.{limit}
-use Rattle.batch_commands.proofs.Tables.{of-each}
+use Rattle.field_montgomery.specs.declared.Form.{Form}
+use Rattle.field_montgomery.specs.declared.Form.the-variants.{Plain, Montgomery}
+use Rattle.batch_commands.specs.Form.{rowCommand, otherForm}
+use Rattle.batch_commands.proofs.Tables.{of-each, of-any, row-known, row-limit, row-rank}
 use Rattle.batch_commands.proofs.Laid.{laid-append}
 use Rattle.batch_reader.specs.declared.OpenAnswer.the-variants.{Opened}
-use Rattle.batch_reader.specs.Commands.{count, counts, contents, announced}
+use Rattle.batch_reader.specs.Commands.{count, counts, contents, formOf, sliceFrom, announced}
 use Rattle.batch_reader.specs.Reading.{read, reading}
 use Rattle.batch_reader.specs.Answers.{countsIn}
 use Rattle.batch_reader.proofs.Commands.{length-contents}
+use Rattle.batch_reader.proofs.Forms.{rows-counted}
+use Rattle.batch_reader.proofs.Rows.{length-rows}
 use Rattle.batch_reader.proofs.Ordered.{Every}
 use Rattle.batch_reader.proofs.LaidOut.{end, is-read}
 use Rattle.batch.specs.Open.{MAX-BYTES, openAnswer}
@@ -34,143 +40,204 @@ use Rattle.batch_writer.specs.Layout.{batchOf}
 use Rattle.batch_writer.proofs.Answers.{the-batch}
 use Rattle.batch_writer.proofs.Parts.{length-batchOf}
 use Rattle.terms_batches.specs.Opening.{opened, slicesAfter, upTo, countsOf}
-use Rattle.terms_batches.specs.Written.{RightSlices, withSortedLists, WrittenOpens, WrittenAgain}
+use Rattle.terms_batches.specs.Written.{RightSlices, withSortedLists, WrittenOpens, WrittenForm, WrittenAgain}
 use Rattle.terms_batches.proofs.Canonical.{contentsIn, canonical}
 use Rattle.terms_batches.proofs.Joined.{Fits, unkeyed, keyed, each-joined, counted, count-joined, held, contents-joined, ordered-joined}
 use Rattle.terms_batches.proofs.Opened.{opening, left-in-slices}
 use Rattle.terms_batches.proofs.Sections.{section, joined, sectionsOf, announcing, commands-of}
 use Rattle.terms_batches.proofs.Sorted.{below-sorted, sorted-ascends}
-use Rattle.terms_batches.proofs.Sound.{Proper, Sound, sound, faultless, complete}
+use Rattle.terms_batches.proofs.Sound.{contents-below, Sound, sound, form-of, rows-of, faultless, complete}
+use Rattle.field_montgomery.proofs.Many.{plain-in-form, below-in-form, below-plain, length-in-form}
 use Rattle.terms_batches.proofs.Filled.{Filled}
 use Rattle.terms_batches.proofs.Writable.{Writable, writable, done}
 
 -- words in their order
-plain : (n code : ℕ) (ws : List ℕ) → code < 10 → (code ≡ END → ⊥) → 8 * (width code / 8) ≡ width code → keyWidth code ≡ 0 → n * (width code / 8) ≡ length ws → allBelow ws ≡ true → Fits (section n code ws)
-plain n code ws known more even unkey exact below = record { known = known; more = more; even = even; filled = record { exact = exact; below = below }; chained = unkeyed n code ws unkey }
+unsorted : (n code : ℕ) (ws : List ℕ) → code < COMMANDS → (code ≡ END → ⊥) → 8 * (width code / 8) ≡ width code → keyWidth code ≡ 0 → n * (width code / 8) ≡ length ws → allBelow ws ≡ true → Fits (section n code ws)
+unsorted n code ws known more even unkey exact below = record { known = known; more = more; even = even; filled = record { exact = exact; below = below }; chained = unkeyed n code ws unkey }
 
 -- differences, sorted
-differences : (code : ℕ) (ws : List ℕ) → code < 10 → (code ≡ END → ⊥) → width code ≡ 8 → keyWidth code ≡ 8 → allBelow ws ≡ true → Fits (section (length ws) code (sorted ws))
+differences : (code : ℕ) (ws : List ℕ) → code < COMMANDS → (code ≡ END → ⊥) → width code ≡ 8 → keyWidth code ≡ 8 → allBelow ws ≡ true → Fits (section (length ws) code (sorted ws))
 differences code ws known more wide keys below =
     let filled : Filled (length ws) code (sorted ws) = record { exact = rw (wide, length-sorted ws) (mul-one (length ws)); below = below-sorted ws ∙ below } in
     record { known = known; more = more; even = rw wide; filled = filled; chained = keyed 0 (length ws) code (sorted ws) wide keys filled (sorted-ascends ws) }
 
-abbrev commandsIn : Contents → List Command
-commandsIn c = announcing (rows (c .trace)) ∷ joined (sectionsOf c)
+-- rows, in either form
+rows-fit : (form : Form) (n : ℕ) (ws : List ℕ) → n * (width ROW / 8) ≡ length ws → allBelow ws ≡ true → Fits (section n (rowCommand form) (inForm form ws))
+rows-fit Plain n ws exact below = unsorted n ROW ws (lit< tt) (λ e. omega arith) refl refl exact below
+rows-fit Montgomery n ws exact below = unsorted n MONTGOMERY-ROW (inForm Montgomery ws) (lit< tt) (λ e. omega arith) refl refl (exact ∙ sym (length-in-form Montgomery ws)) (below-in-form Montgomery ws below)
 
-module _ (c : Contents) (n : ℕ) (w : Writable c n) where
-  fits : Every Fits (sectionsOf c)
+module _ (c : Contents) where
+  -- a command that is no row: the form changes neither how often it stands nor what it brings
+  module _ (code : ℕ) (no-row : (eqb code ROW || eqb code MONTGOMERY-ROW) ≡ false) where
+    other : (form : Form) → eqb (rowCommand form) code ≡ false
+    other Plain = ne-eqb ROW code (λ e. of-any Montgomery code no-row (sym e))
+    other Montgomery = ne-eqb MONTGOMERY-ROW code (λ e. of-any Plain code no-row (sym e))
+
+    counted-alike : (form : Form) → counted code (sectionsOf form c) ≡ counted code (sectionsOf Plain c)
+    counted-alike form = rw (other form, other Plain)
+
+    held-alike : (form : Form) → held code (sectionsOf form c) ≡ held code (sectionsOf Plain c)
+    held-alike form = rw (other form, other Plain)
+
+  counted-rows : (form : Form) → counted (rowCommand form) (sectionsOf form c) ≡ rows (c .trace)
+  counted-rows Plain = omega arith
+  counted-rows Montgomery = omega arith
+
+  counted-others : (form : Form) → counted (rowCommand (otherForm form)) (sectionsOf form c) ≡ 0
+  counted-others Plain = refl
+  counted-others Montgomery = refl
+
+  held-rows : (form : Form) → held (rowCommand form) (sectionsOf form c) ≡ inForm form (c .trace) ++ []
+  held-rows Plain = refl
+  held-rows Montgomery = refl
+
+abbrev commandsIn : Form → Contents → List Command
+commandsIn form c = announcing (rows (c .trace)) ∷ joined (sectionsOf form c)
+
+either : (form row : Form) → (row ≡ form) ⊎ (row ≡ otherForm form)
+either Plain Plain = inl refl
+either Plain Montgomery = inr refl
+either Montgomery Plain = inr refl
+either Montgomery Montgomery = inl refl
+
+no-first : (form : Form) → eqb TRACE-ROWS (rowCommand form) ≡ false
+no-first Plain = refl
+no-first Montgomery = refl
+
+module _ (form : Form) (c : Contents) (n : ℕ) (w : Writable c n) where
+  fits : Every Fits (sectionsOf form c)
   fits =
-      let digest = plain 1 DIGEST (c .digest) (lit< tt) (λ e. omega arith) refl refl (omega (arith, w .lengths .digest)) (w .digest) in
-      let input = plain (length (c .input)) INPUT (c .input) (lit< tt) (λ e. omega arith) refl refl (omega arith) (w .input) in
-      let output = plain (length (c .output)) OUTPUT (c .output) (lit< tt) (λ e. omega arith) refl refl (omega arith) (w .output) in
-      let sampled = plain 1 SAMPLED (c .sampled) (lit< tt) (λ e. omega arith) refl refl (omega (arith, w .lengths .sampled)) (w .sampled) in
-      let trace = plain (rows (c .trace)) ROW (c .trace) (lit< tt) (λ e. omega arith) refl refl (omega (arith, w .lengths .whole)) (w .trace) in
+      let digest = unsorted 1 DIGEST (c .digest) (lit< tt) (λ e. omega arith) refl refl (omega (arith, w .lengths .digest)) (w .digest) in
+      let input = unsorted (length (c .input)) INPUT (c .input) (lit< tt) (λ e. omega arith) refl refl (omega arith) (w .input) in
+      let output = unsorted (length (c .output)) OUTPUT (c .output) (lit< tt) (λ e. omega arith) refl refl (omega arith) (w .output) in
+      let sampled = unsorted 1 SAMPLED (c .sampled) (lit< tt) (λ e. omega arith) refl refl (omega (arith, w .lengths .sampled)) (w .sampled) in
+      let trace = rows-fit form (rows (c .trace)) (c .trace) (omega (arith, w .lengths .whole)) (w .trace) in
       let op-stack = differences OP-STACK (c .op-stack) (lit< tt) (λ e. omega arith) refl refl (w .op-stack) in
       let ram = differences RAM (c .ram) (lit< tt) (λ e. omega arith) refl refl (w .ram) in
       let jump-stack = differences JUMP-STACK (c .jump-stack) (lit< tt) (λ e. omega arith) refl refl (w .jump-stack) in
       (digest, (input, (output, (sampled, (trace, (op-stack, (ram, (jump-stack, tt))))))))
 
-  announces : announced (commandsIn c) ≡ rows (c .trace)
+  announces : announced (commandsIn form c) ≡ rows (c .trace)
   announces = number-littleEndian 4 (rows (c .trace)) (omega (arith, w .few-rows))
 
   -- how many of a kind
-  counts-are : (code : ℕ) → count code (commandsIn c) ≡ cond (eqb TRACE-ROWS code) 1 0 + counted code (sectionsOf c)
+  counts-are : (code : ℕ) → count code (commandsIn form c) ≡ cond (eqb TRACE-ROWS code) 1 0 + counted code (sectionsOf form c)
   unfolding count
-  counts-are code = ap (λ m. cond (eqb TRACE-ROWS code) 1 0 + m) (count-joined code (sectionsOf c))
+  counts-are code = ap (λ m. cond (eqb TRACE-ROWS code) 1 0 + m) (count-joined code (sectionsOf form c))
 
-  under : (code : ℕ) → cond (eqb TRACE-ROWS code) 1 0 + counted code (sectionsOf c) ≤ limit (rows (c .trace)) code → count code (commandsIn c) ≤ limit (announced (commandsIn c)) code
-  under code h = rw (counts-are code, announces) h
+  -- of one that is no row
+  counts-alike : (code : ℕ) → (eqb code ROW || eqb code MONTGOMERY-ROW) ≡ false → count code (commandsIn form c) ≡ cond (eqb TRACE-ROWS code) 1 0 + counted code (sectionsOf Plain c)
+  counts-alike code no-row = counts-are code ∙ ap (_+_ (cond (eqb TRACE-ROWS code) 1 0)) (counted-alike c code no-row form)
 
-  under-limits : (code : ℕ) → code < 10 → count code (commandsIn c) ≤ limit (announced (commandsIn c)) code
+  count-rows : count (rowCommand form) (commandsIn form c) ≡ rows (c .trace)
+  count-rows = counts-are (rowCommand form) ∙ rw (no-first form) (zero-add (counted (rowCommand form) (sectionsOf form c)) ∙ counted-rows c form)
+
+  count-others : count (rowCommand (otherForm form)) (commandsIn form c) ≡ 0
+  count-others = counts-are (rowCommand (otherForm form)) ∙ rw (no-first (otherForm form)) (zero-add (counted (rowCommand (otherForm form)) (sectionsOf form c)) ∙ counted-others c form)
+
+  under : (code : ℕ) → (eqb code ROW || eqb code MONTGOMERY-ROW) ≡ false → cond (eqb TRACE-ROWS code) 1 0 + counted code (sectionsOf Plain c) ≤ limit (rows (c .trace)) code → count code (commandsIn form c) ≤ limit (announced (commandsIn form c)) code
+  under code no-row h = rw (counts-alike code no-row, announces) h
+
+  under-rows : (row : Form) → count (rowCommand row) (commandsIn form c) ≤ rows (c .trace) → count (rowCommand row) (commandsIn form c) ≤ limit (announced (commandsIn form c)) (rowCommand row)
+  under-rows row h = rw (announces, row-limit (rows (c .trace)) row) h
+
+  at-most : (row : Form) → count (rowCommand row) (commandsIn form c) ≤ rows (c .trace)
+  at-most row = ⊎-elim (λ e. rw e (omega (arith, count-rows))) (λ e. rw e (omega (arith, count-others))) (either form row)
+
+  under-limits : (code : ℕ) → code < COMMANDS → count code (commandsIn form c) ≤ limit (announced (commandsIn form c)) code
   under-limits =
-      let op-stack = under OP-STACK (omega (arith, w .lengths .op-stack)) in
-      let ram = under RAM (omega (arith, w .lengths .ram)) in
-      let jump-stack = under JUMP-STACK (omega (arith, w .lengths .jump-stack)) in
-      let input = under INPUT (omega (arith, w .lengths .input)) in
-      let output = under OUTPUT (omega (arith, w .lengths .output)) in
-      of-each (λ code. count code (commandsIn c) ≤ limit (announced (commandsIn c)) code)
-      (under END (lit≤ tt), (under TRACE-ROWS (lit≤ tt), (under ROW (omega arith), (op-stack, (ram, (jump-stack, (under SAMPLED (lit≤ tt), (under DIGEST (lit≤ tt), (input, (output, tt))))))))))
+      let op-stack = under OP-STACK refl (omega (arith, w .lengths .op-stack)) in
+      let ram = under RAM refl (omega (arith, w .lengths .ram)) in
+      let jump-stack = under JUMP-STACK refl (omega (arith, w .lengths .jump-stack)) in
+      let input = under INPUT refl (omega (arith, w .lengths .input)) in
+      let output = under OUTPUT refl (omega (arith, w .lengths .output)) in
+      of-each (λ code. count code (commandsIn form c) ≤ limit (announced (commandsIn form c)) code)
+      (under END refl (lit≤ tt), (under TRACE-ROWS refl (lit≤ tt), (under-rows Plain (at-most Plain), (op-stack, (ram, (jump-stack, (under SAMPLED refl (lit≤ tt), (under DIGEST refl (lit≤ tt), (input, (output, (under-rows Montgomery (at-most Montgomery), tt)))))))))))
 
-  sound-so : Sound (commandsIn c)
+  sound-so : Sound form (commandsIn form c)
   unfolding allBelow words
   sound-so =
       record {
         starts = refl;
         some-rows = rw announces (w .some-rows);
         few-rows = rw announces (w .few-rows);
-        each = (record { known = lit< tt; more = λ e. omega arith; whole = length-littleEndian 4 (rows (c .trace)); below = refl }, each-joined (sectionsOf c) fits);
-        in-order = ((omega arith, λ e. omega arith), ordered-joined 0 (key TRACE-ROWS (littleEndian 4 (rows (c .trace)))) (sectionsOf c) (lit< tt, (lit< tt, (lit< tt, (lit< tt, (lit< tt, (lit< tt, (lit< tt, (lit< tt, lit< tt)))))))) fits);
+        each = (record { known = lit< tt; more = λ e. omega arith; whole = length-littleEndian 4 (rows (c .trace)); below = refl }, each-joined (sectionsOf form c) fits);
+        in-order = ((omega arith, λ e. omega arith), ordered-joined 0 (key TRACE-ROWS (littleEndian 4 (rows (c .trace)))) (sectionsOf form c) (lit< tt, (lit< tt, (lit< tt, (lit< tt, (rw (row-rank form) (lit< tt), (rw (row-rank form) (lit< tt), (lit< tt, (lit< tt, lit< tt)))))))) fits);
         within = under-limits;
-        all-rows = rw (announces, counts-are ROW) (omega arith);
-        sampled = rw (counts-are SAMPLED) (lit≤ tt);
-        digest = rw (counts-are DIGEST) (lit≤ tt);
+        all-rows = rw (announces, count-rows) (omega arith);
+        one-form = count-others;
+        sampled = rw (counts-alike SAMPLED refl) (lit≤ tt);
+        digest = rw (counts-alike DIGEST refl) (lit≤ tt);
       }
 
-  batch-is : batchOf c ≡ laidOut (commandsIn c) ++ (END ∷ [])
+  batch-is : batchOf form c ≡ laidOut (commandsIn form c) ++ (END ∷ [])
   unfolding batchOf laidOut
-  batch-is = ap laidOut (commands-of c) ∙ laid-append (commandsIn c) (end ∷ [])
+  batch-is = ap laidOut (commands-of form c) ∙ laid-append (commandsIn form c) (end ∷ [])
 
-  reads : reading (batchOf c) ≡ read (commandsIn c)
-  reads = is-read (batchOf c) (commandsIn c) (record { is = batch-is; faultless = faultless (commandsIn c) sound-so; complete = complete (commandsIn c) sound-so })
+  reads : reading (batchOf form c) ≡ read (commandsIn form c)
+  reads = is-read (batchOf form c) (commandsIn form c) (record { is = batch-is; faultless = faultless form (commandsIn form c) sound-so; complete = complete form (commandsIn form c) sound-so })
 
-  short : length (batchOf c) ≤ MAX-BYTES
-  short = omega (arith, length-batchOf c (w .lengths .whole) (w .lengths .sampled) (w .lengths .digest), w .few-rows, w .lengths .op-stack, w .lengths .ram, w .lengths .jump-stack, w .lengths .input, w .lengths .output)
+  short : length (batchOf form c) ≤ MAX-BYTES
+  short = omega (arith, length-batchOf form c (w .lengths .whole) (w .lengths .sampled) (w .lengths .digest), w .few-rows, w .lengths .op-stack, w .lengths .ram, w .lengths .jump-stack, w .lengths .input, w .lengths .output)
 
-  counts-so : countsIn (counts (commandsIn c)) ≡ countsOf c
-  counts-so = rw (counts-are ROW, counts-are OP-STACK, counts-are RAM, counts-are JUMP-STACK, counts-are INPUT, counts-are OUTPUT) (simp (zero-add, add-zero))
+  counts-so : countsIn (counts (commandsIn form c)) ≡ countsOf c
+  counts-so = rw (rows-of form (commandsIn form c) sound-so, count-rows, counts-alike OP-STACK refl, counts-alike RAM refl, counts-alike JUMP-STACK refl, counts-alike INPUT refl, counts-alike OUTPUT refl) (simp (zero-add, add-zero))
 
-  opens : (lent : Contents) → RightSlices lent → opened (batchOf c) lent ≡ Opened (countsOf c)
+  opens : (lent : Contents) → RightSlices lent → opened (batchOf form c) lent ≡ Opened (countsOf c)
   unfolding openAnswer
-  opens lent right = rw (le-ltb MAX-BYTES (length (batchOf c)) short, right, reads) (ap Opened counts-so)
+  opens lent right = rw (le-ltb MAX-BYTES (length (batchOf form c)) short, right, reads) (ap Opened counts-so)
 
   -- what a kind brings
-  brings : (code : ℕ) (ws : List ℕ) → eqb TRACE-ROWS code ≡ false → held code (sectionsOf c) ≡ ws ++ [] → contents code (commandsIn c) ≡ ws
+  brings : (code : ℕ) (ws : List ℕ) → eqb TRACE-ROWS code ≡ false → held code (sectionsOf form c) ≡ ws ++ [] → contents code (commandsIn form c) ≡ ws
   unfolding contents
-  brings code ws other e = rw (other, contents-joined code (sectionsOf c) fits, e) (append-nil ws)
+  brings code ws other e = rw (other, contents-joined code (sectionsOf form c) fits, e) (append-nil ws)
 
-  contents-so : contentsIn (commandsIn c) ≡ withSortedLists c
+  list-brings : (code : ℕ) (ws : List ℕ) → eqb TRACE-ROWS code ≡ false → (eqb code ROW || eqb code MONTGOMERY-ROW) ≡ false → held code (sectionsOf Plain c) ≡ ws ++ [] → contents code (commandsIn form c) ≡ ws
+  list-brings code ws first no-row e = brings code ws first (held-alike c code no-row form ∙ e)
+
+  rows-bring : sliceFrom ROW (commandsIn form c) ≡ c .trace
+  rows-bring = rw (form-of form (commandsIn form c) sound-so, brings (rowCommand form) (inForm form (c .trace)) (no-first form) (held-rows c form)) (plain-in-form form (c .trace) (w .trace))
+
+  contents-so : contentsIn (commandsIn form c) ≡ withSortedLists c
   contents-so =
       λ i. record {
-        trace = brings ROW (c .trace) refl refl i;
-        op-stack = brings OP-STACK (sorted (c .op-stack)) refl refl i;
-        ram = brings RAM (sorted (c .ram)) refl refl i;
-        jump-stack = brings JUMP-STACK (sorted (c .jump-stack)) refl refl i;
-        sampled = brings SAMPLED (c .sampled) refl refl i;
-        digest = brings DIGEST (c .digest) refl refl i;
-        input = brings INPUT (c .input) refl refl i;
-        output = brings OUTPUT (c .output) refl refl i;
+        trace = rows-bring i;
+        op-stack = list-brings OP-STACK (sorted (c .op-stack)) refl refl refl i;
+        ram = list-brings RAM (sorted (c .ram)) refl refl refl i;
+        jump-stack = list-brings JUMP-STACK (sorted (c .jump-stack)) refl refl refl i;
+        sampled = list-brings SAMPLED (c .sampled) refl refl refl i;
+        digest = list-brings DIGEST (c .digest) refl refl refl i;
+        input = list-brings INPUT (c .input) refl refl refl i;
+        output = list-brings OUTPUT (c .output) refl refl refl i;
       }
 
-  leaves : (lent : Contents) → RightSlices lent → upTo (countsOf c) (slicesAfter (batchOf c) lent) ≡ withSortedLists c
+  leaves : (lent : Contents) → RightSlices lent → upTo (countsOf c) (slicesAfter (batchOf form c) lent) ≡ withSortedLists c
   leaves lent right =
       let e = opens lent right in
-      let o = opening (batchOf c) lent (countsOf c) e in
-      let same : read (o .ks) ≡ read (commandsIn c) = sym (o .is-read) ∙ reads in
-      let commands : o .ks ≡ commandsIn c = cc in
-      left-in-slices (batchOf c) lent (countsOf c) e ∙ ap contentsIn commands ∙ contents-so
+      let o = opening (batchOf form c) lent (countsOf c) e in
+      let same : read (o .ks) ≡ read (commandsIn form c) = sym (o .is-read) ∙ reads in
+      let commands : o .ks ≡ commandsIn form c = cc in
+      left-in-slices (batchOf form c) lent (countsOf c) e ∙ ap contentsIn commands ∙ contents-so
 
 pub written-opens : WrittenOpens
-written-opens c batch e lent right =
-    let w = writable c (length batch) e in
-    rw (sym (the-batch c batch (sym e))) (opens c (length batch) w lent right, leaves c (length batch) w lent right)
+written-opens form c batch e lent right =
+    let w = writable form c (length batch) e in
+    rw (sym (the-batch form c batch (sym e))) (opens form c (length batch) w lent right, leaves form c (length batch) w lent right)
 
-contents-below : (code : ℕ) (ks : List Command) → Every Proper ks → allBelow (contents code ks) ≡ true
-unfolding contents allBelow
-contents-below code [] h = refl
-contents-below code (k ∷ ks) h = below-append (wordsFor code (k .code) (k .operand)) (contents code ks) (kind-below (eqb (k .code) code)) (contents-below code ks (h .1))
-  where
-    kind-below : (same : Bool) → allBelow (cond same (wordsIn (k .code) (k .operand)) []) ≡ true
-    kind-below true = h .0 .below
-    kind-below false = refl
+pub written-form : WrittenForm
+written-form form c batch e =
+    let w = writable form c (length batch) e in
+    rw (sym (the-batch form c batch (sym e)), reads form c (length batch) w) (form-of form (commandsIn form c) (sound-so form c (length batch) w))
 
 -- what commands bring, the writer takes
-takes : (ks : List Command) → Sound ks → (n : ℕ) → n ≡ length (batchOf (contentsIn ks)) → Writable (contentsIn ks) n
+takes : (ks : List Command) → Sound (formOf ks) ks → (n : ℕ) → n ≡ length (batchOf (formOf ks) (contentsIn ks)) → Writable (contentsIn ks) n
 takes ks s n size =
     let c = contentsIn ks in
     let some = s .some-rows in
     let few = s .few-rows in
     let all = s .all-rows in
-    let whole : length (c .trace) % MAIN-WIDTH ≡ 0 = omega (arith, length-contents ROW ks) in
+    let form = formOf ks in
+    let whole : length (c .trace) % MAIN-WIDTH ≡ 0 = omega (arith, length-rows ks) in
     let sampled : length (c .sampled) ≡ SAMPLED-WORDS = omega (arith, length-contents SAMPLED ks, s .sampled, s .within SAMPLED (lit< tt)) in
     let digest : length (c .digest) ≡ DIGEST-WORDS = omega (arith, length-contents DIGEST ks, s .digest, s .within DIGEST (lit< tt)) in
     record {
@@ -183,11 +250,11 @@ takes ks s n size =
         digest = digest;
         input = omega (arith, length-contents INPUT ks, s .within INPUT (lit< tt));
         output = omega (arith, length-contents OUTPUT ks, s .within OUTPUT (lit< tt));
-        batch-length = size ∙ length-batchOf c whole sampled digest;
+        batch-length = size ∙ length-batchOf form c whole sampled digest;
       };
-      some-rows = omega (arith, length-contents ROW ks);
-      few-rows = omega (arith, length-contents ROW ks, s .within ROW (lit< tt));
-      trace = contents-below ROW ks (s .each);
+      some-rows = omega (arith, length-rows ks, rows-counted ks);
+      few-rows = omega (arith, length-rows ks, rows-counted ks, s .within (rowCommand form) (row-known form), row-limit (announced ks) form);
+      trace = below-plain form (contents (rowCommand form) ks) (contents-below (rowCommand form) ks (s .each));
       op-stack = contents-below OP-STACK ks (s .each);
       ram = contents-below RAM ks (s .each);
       jump-stack = contents-below JUMP-STACK ks (s .each);
@@ -202,5 +269,5 @@ written-again batch bytes lent counts e slice l =
     let o = opening batch lent counts e in
     let is = canonical batch (o .ks) (o .is-read) bytes in
     let w = takes (o .ks) (sound batch (o .ks) (o .is-read)) (length slice) (l ∙ ap length is) in
-    let answer = done (contentsIn (o .ks)) (length slice) w in
-    rw (left-in-slices batch lent counts e) (answer, sym (the-batch (contentsIn (o .ks)) slice (sym answer)) ∙ sym is)
+    let answer = done (formOf (o .ks)) (contentsIn (o .ks)) (length slice) w in
+    rw (left-in-slices batch lent counts e, o .is-read) (answer, sym (the-batch (formOf (o .ks)) (contentsIn (o .ks)) slice (sym answer)) ∙ sym is)

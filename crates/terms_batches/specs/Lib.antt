@@ -1,4 +1,4 @@
--- Document 02, One: a run has one batch, and the writer writes it.
+-- Document 02, One and Three: a run has one batch in each form, and the writer writes it.
 pub mod Opening
 pub mod OneBatch
 pub mod Written

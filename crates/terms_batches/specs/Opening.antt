@@ -5,8 +5,11 @@ use lib.ListN.{length, take, getD}
 use Rattle.air.specs.MainColumn.{MAIN-WIDTH}
 use Rattle.table_rows.specs.Rows.{rows}
 use Rattle.batch_commands.specs.Format.{ROW, OP-STACK, RAM, JUMP-STACK, SAMPLED, DIGEST, INPUT, OUTPUT}
+use Rattle.field_montgomery.specs.declared.Form.{Form}
 use Rattle.batch_reader.specs.declared.Counts.{Counts}
 use Rattle.batch_reader.specs.declared.OpenAnswer.{OpenAnswer}
+use Rattle.batch_reader.specs.Commands.{formOf}
+use Rattle.batch_reader.specs.Reading.{reading, commandsOf}
 use Rattle.batch.specs.Open.{openAnswer, openSlice}
 use Rattle.batch_writer.specs.Contents.{Contents}
 
@@ -48,6 +51,10 @@ upTo counts slices =
       input = take (counts .input) (slices .input);
       output = take (counts .output) (slices .output);
     }
+
+-- the form of a batch's rows, by its row command; open does not answer it
+abbrev pub rowForm : List ℕ → Form
+rowForm batch = formOf (commandsOf (reading batch))
 
 -- the six counts of given contents
 abbrev pub countsOf : Contents → Counts

@@ -6,13 +6,14 @@ use Prim.Native.Nat.{ℕ, suc, _≤_, _<_}
 use lib.ListN.{length, getD}
 use Rattle.refusal.specs.declared.Answer.the-variants.{Done}
 use Rattle.table_fill.specs.Fill.{count}
+use Rattle.field_montgomery.specs.declared.Form.{Form}
 use Rattle.batch_reader.specs.declared.Counts.{Counts}
 use Rattle.batch_reader.specs.declared.OpenAnswer.the-variants.{Opened}
 use Rattle.batch.specs.Open.{rightLengths}
 use Rattle.batch_sorted.specs.Sorted.{sorted}
 use Rattle.batch_writer.specs.Contents.{Contents}
 use Rattle.batch_writer.specs.Write.{writeAnswer, writeBatch}
-use Rattle.terms_batches.specs.Opening.{Bytes, opened, slicesAfter, upTo, countsOf}
+use Rattle.terms_batches.specs.Opening.{Bytes, opened, slicesAfter, upTo, countsOf, rowForm}
 
 -- each word stands equally often in both
 abbrev pub SameBag : List ℕ → List ℕ → Type 0
@@ -47,19 +48,23 @@ RightSlices lent =
     (length (lent .digest)) (length (lent .input)) (length (lent .output))
     ≡ true
 
--- what is written opens, to these contents with each difference list sorted
+-- what is written opens, to these contents with each difference list sorted, in either form
 abbrev pub WrittenOpens : Type 0
 WrittenOpens =
-    (contents : Contents) (batch : List ℕ) → writeAnswer contents (length batch) ≡ Done
+    (form : Form) (contents : Contents) (batch : List ℕ) → writeAnswer form contents (length batch) ≡ Done
     → (lent : Contents) → RightSlices lent
-    → let written = writeBatch contents batch in
+    → let written = writeBatch form contents batch in
     (opened written lent ≡ Opened (countsOf contents)) × (upTo (countsOf contents) (slicesAfter written lent) ≡ withSortedLists contents)
 
--- the contents of a batch that opens, and a slice of its length: the batch is written
+-- and its rows have the form that was asked for
+abbrev pub WrittenForm : Type 0
+WrittenForm = (form : Form) (contents : Contents) (batch : List ℕ) → writeAnswer form contents (length batch) ≡ Done → rowForm (writeBatch form contents batch) ≡ form
+
+-- the contents of a batch that opens, its form, and a slice of its length: the batch is written
 abbrev pub WrittenAgain : Type 0
 WrittenAgain =
     (batch : List ℕ) → Bytes batch
     → (lent : Contents) (counts : Counts) → opened batch lent ≡ Opened counts
     → (slice : List ℕ) → length slice ≡ length batch
     → let contents = upTo counts (slicesAfter batch lent) in
-    (writeAnswer contents (length slice) ≡ Done) × (writeBatch contents slice ≡ batch)
+    (writeAnswer (rowForm batch) contents (length slice) ≡ Done) × (writeBatch (rowForm batch) contents slice ≡ batch)

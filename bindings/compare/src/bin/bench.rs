@@ -1,15 +1,17 @@
 //! The library and plain Rust side by side, in one run: nanoseconds a call, the best of several runs of each, and the ratio.
-//! Both sides are calls of the same shape: words checked, the result handed out through a slice.
+//! Both sides are calls of the same shape: words checked, the result handed out through a slice. Then the library on words and rows
+//! in Montgomery form beside the library on plain ones.
 
 use std::hint::black_box;
 use std::time::Instant;
 
-use compare::plain::batch::{self, LENGTHS};
+use compare::plain::batch::{self, FORMS, LENGTHS};
 use compare::plain::batched::extend_batched;
 use compare::plain::extension::{column::*, AUX_WIDTH, WIDTH};
 use compare::plain::{self, Element};
 use compare::random::Random;
 use tealbobbin::abi;
+use tealbobbin::batch::Form;
 use tealbobbin::challenges::{Challenges, SampledChallenges};
 use tealbobbin::field::P;
 use tealbobbin::processor::WORK_WIDTH;
@@ -57,6 +59,9 @@ const USUAL: [(u64, u64); 34] = [
 /// The instructions with the most entries: sponge_absorb, sponge_squeeze, sponge_absorb_mem and merkle_step_mem.
 const COSTLY: [(u64, u64); 4] = [(34, 1), (56, 1), (48, 1), (44, 1)];
 
+type OfOne = fn(u64, &mut [u64]) -> u32;
+type OfTwo = fn(u64, u64, &mut [u64]) -> u32;
+
 #[inline(never)]
 fn plain_base_mul(a: u64, b: u64, out: &mut [u64]) -> u32 {
     if out.len() != 1 {
@@ -66,6 +71,57 @@ fn plain_base_mul(a: u64, b: u64, out: &mut [u64]) -> u32 {
         return 2;
     }
     out[0] = plain::mul(a, b);
+    0
+}
+
+#[inline(never)]
+fn plain_montgomery_mul(a: u64, b: u64, out: &mut [u64]) -> u32 {
+    if out.len() != 1 {
+        return 1;
+    }
+    if a >= P || b >= P {
+        return 2;
+    }
+    out[0] = plain::montgomery_mul(a, b);
+    0
+}
+
+#[inline(never)]
+fn plain_to_montgomery(a: u64, out: &mut [u64]) -> u32 {
+    if out.len() != 1 {
+        return 1;
+    }
+    if a >= P {
+        return 2;
+    }
+    out[0] = plain::to_montgomery(a);
+    0
+}
+
+#[inline(never)]
+fn plain_from_montgomery(a: u64, out: &mut [u64]) -> u32 {
+    if out.len() != 1 {
+        return 1;
+    }
+    if a >= P {
+        return 2;
+    }
+    out[0] = plain::montgomery_mul(a, 1);
+    0
+}
+
+#[inline(never)]
+fn plain_montgomery_inverse(a: u64, out: &mut [u64]) -> u32 {
+    if out.len() != 1 {
+        return 1;
+    }
+    if a >= P {
+        return 2;
+    }
+    if a == 0 {
+        return 6;
+    }
+    out[0] = plain::montgomery_inverse(a);
     0
 }
 
@@ -159,10 +215,58 @@ fn usual_table(random: &mut Random, rows: usize) -> Vec<u64> {
     main
 }
 
-/// What a batch brings, with this many rows, differences of each kind, and words of input and of output.
-fn contents(random: &mut Random, rows: usize, differences: usize, words: usize) -> [Vec<u64>; 8] {
-    [rows * WIDTH, differences, differences, differences, SampledChallenges::WORDS, 5, words, words]
-        .map(|length| (0..length).map(|_| random.word() % P).collect())
+type Open = fn(&[u8], [&mut [u64]; 8], &mut [u64]) -> u32;
+type Write = fn([&[u64]; 8], Form, &mut [u8]) -> u32;
+
+fn plain_open(bytes: &[u8], slices: [&mut [u64]; 8], counts: &mut [u64]) -> u32 {
+    batch::open(bytes, slices, counts).1
+}
+
+fn ours_write(slices: [&[u64]; 8], form: Form, bytes: &mut [u8]) -> u32 {
+    abi::write(slices, form as u64, bytes)
+}
+
+/// What a batch brings.
+struct Contents([Vec<u64>; 8]);
+
+/// With this many rows, differences of each kind, and words of input and of output.
+fn contents(random: &mut Random, rows: usize, differences: usize, words: usize) -> Contents {
+    let lengths = [rows * WIDTH, differences, differences, differences, SampledChallenges::WORDS, 5, words, words];
+    Contents(lengths.map(|length| (0..length).map(|_| random.word() % P).collect()))
+}
+
+impl Contents {
+    fn slices(&self) -> [&[u64]; 8] {
+        self.0.each_ref().map(Vec::as_slice)
+    }
+
+    /// The bytes of its batch.
+    fn length(&self) -> usize {
+        batch::length(&self.slices())
+    }
+
+    /// 200 calls that open it, with rows in this form.
+    fn opens(&self, form: Form, open: Open) -> impl FnMut() {
+        let mut bytes = vec![0; self.length()];
+        assert_eq!(batch::write(self.slices(), form, &mut bytes), 0);
+        let mut lent = LENGTHS.map(|length| vec![0; length]);
+        move || {
+            for _ in 0..200 {
+                let [slices @ .., counts] = lent.each_mut().map(Vec::as_mut_slice);
+                assert_eq!(open(black_box(&bytes), slices, counts), 0);
+            }
+        }
+    }
+
+    /// 200 calls that write it in this form.
+    fn writes(&self, form: Form, write: Write) -> impl FnMut() + '_ {
+        let mut bytes = vec![0; self.length()];
+        move || {
+            for _ in 0..200 {
+                assert_eq!(write(black_box(self.slices()), form, &mut bytes), 0);
+            }
+        }
+    }
 }
 
 /// The best time of `runs` runs, in nanoseconds a call.
@@ -192,7 +296,7 @@ fn main() {
     let elements: Vec<Element> = (0..1024).map(|_| [random.word() % P, random.word() % P, random.word() % P]).collect();
     println!("{:<34} {:>10} {:>10} {:>8}", "", "ours, ns", "plain, ns", "ratio");
 
-    let products = |f: fn(u64, u64, &mut [u64]) -> u32| {
+    let products = |f: OfTwo| {
         let words = words.clone();
         move || {
             let mut out = [0];
@@ -206,7 +310,7 @@ fn main() {
     };
     side_by_side("base product", 50 * 4095, products(abi::base_mul), products(plain_base_mul));
 
-    let chain = |f: fn(u64, u64, &mut [u64]) -> u32| {
+    let chain = |f: OfTwo| {
         let b = words[0];
         move || {
             let mut out = [b];
@@ -219,7 +323,7 @@ fn main() {
     };
     side_by_side("base product, a chain", 200_000, chain(abi::base_mul), chain(plain_base_mul));
 
-    let inverses = |f: fn(u64, &mut [u64]) -> u32| {
+    let inverses = |f: OfOne| {
         let words = words.clone();
         move || {
             let mut out = [0];
@@ -230,6 +334,23 @@ fn main() {
         }
     };
     side_by_side("base inverse", 4096, inverses(abi::base_inverse), inverses(plain_base_inverse));
+
+    side_by_side("Montgomery product", 50 * 4095, products(abi::montgomery_mul), products(plain_montgomery_mul));
+    side_by_side("Montgomery product, a chain", 200_000, chain(abi::montgomery_mul), chain(plain_montgomery_mul));
+    side_by_side("Montgomery inverse", 4096, inverses(abi::montgomery_inverse), inverses(plain_montgomery_inverse));
+
+    const WORDS: usize = 1 << 20;
+    let many: Vec<u64> = (0..WORDS).map(|_| random.word() % P).collect();
+    let conversions = |f: OfOne| {
+        let mut converted = many.clone();
+        move || {
+            for word in converted.chunks_exact_mut(1) {
+                assert_eq!(f(word[0], word), 0);
+            }
+        }
+    };
+    side_by_side("to Montgomery form, 2^20 words", WORDS, conversions(abi::to_montgomery), conversions(plain_to_montgomery));
+    side_by_side("from Montgomery form, 2^20 words", WORDS, conversions(abi::from_montgomery), conversions(plain_from_montgomery));
 
     let element_products = |f: fn(&[u64], &[u64], &mut [u64]) -> u32| {
         let elements = elements.clone();
@@ -310,32 +431,24 @@ fn main() {
 
     for (rows, differences, words) in [(32, 128, 64), (16, 64, 32)] {
         let contents = contents(&mut random, rows, differences, words);
-        let slices = contents.each_ref().map(Vec::as_slice);
-        let length = batch::length(&slices);
-        let mut bytes = vec![0; length];
-        assert_eq!(batch::write(slices, &mut bytes), 0);
+        for form in FORMS {
+            let name = if form == Form::Plain { "" } else { ", 0A" };
+            let (name, length) = (format!("{name}, {} bytes", contents.length()), contents.length());
+            side_by_side(&format!("open a byte{name}"), 200 * length, contents.opens(form, abi::open), contents.opens(form, plain_open));
+            side_by_side(&format!("write a byte{name}"), 200 * length, contents.writes(form, ours_write), contents.writes(form, batch::write));
+        }
+    }
 
-        type Open = fn(&[u8], [&mut [u64]; 8], &mut [u64]) -> u32;
-        let opens = |open: Open| {
-            let (bytes, mut lent) = (&bytes, LENGTHS.map(|length| vec![0; length]));
-            move || {
-                for _ in 0..200 {
-                    let [slices @ .., counts] = lent.each_mut().map(Vec::as_mut_slice);
-                    assert_eq!(open(black_box(bytes), slices, counts), 0);
-                }
-            }
-        };
-        side_by_side(&format!("open a byte, {length} bytes"), 200 * length, opens(abi::open), opens(batch::open));
-
-        type Write = fn([&[u64]; 8], &mut [u8]) -> u32;
-        let writes = |write: Write| {
-            let mut bytes = vec![0; length];
-            move || {
-                for _ in 0..200 {
-                    assert_eq!(write(black_box(slices), &mut bytes), 0);
-                }
-            }
-        };
-        side_by_side(&format!("write a byte, {length} bytes"), 200 * length, writes(abi::write), writes(batch::write));
+    println!("{:<34} {:>10} {:>10} {:>8}", "", "form, ns", "plain, ns", "ratio");
+    side_by_side("product", 50 * 4095, products(abi::montgomery_mul), products(abi::base_mul));
+    side_by_side("product, a chain", 200_000, chain(abi::montgomery_mul), chain(abi::base_mul));
+    side_by_side("inverse", 4096, inverses(abi::montgomery_inverse), inverses(abi::base_inverse));
+    for (rows, differences, words) in [(32, 0, 0), (32, 128, 64), (1, 0, 0)] {
+        let contents = contents(&mut random, rows, differences, words);
+        let (length, [plain, montgomery]) = (contents.length(), FORMS);
+        let [in_form, plainly] = [montgomery, plain].map(|form| contents.opens(form, abi::open));
+        side_by_side(&format!("open a byte, {length} bytes"), 200 * length, in_form, plainly);
+        let [in_form, plainly] = [montgomery, plain].map(|form| contents.writes(form, ours_write));
+        side_by_side(&format!("write a byte, {length} bytes"), 200 * length, in_form, plainly);
     }
 }

@@ -1,9 +1,11 @@
 //! A reader and a writer of batches as the papers describe them, command by command.
 
-use tealbobbin::batch::{MAX_BYTES, MAX_DIFFERENCES, MAX_IO_WORDS, MAX_TRACE_ROWS};
+use tealbobbin::batch::{Form, MAX_BYTES, MAX_DIFFERENCES, MAX_IO_WORDS, MAX_TRACE_ROWS};
 use tealbobbin::challenges::SampledChallenges;
 use tealbobbin::field::P;
 use tealbobbin::processor::MAIN_WIDTH;
+
+use super::{from_montgomery, to_montgomery};
 
 /// The lengths of the slices for trace, op stack, RAM, jump stack, sampled, digest, input and output, and of the counts.
 pub const LENGTHS: [usize; 9] = [
@@ -19,26 +21,56 @@ pub const LENGTHS: [usize; 9] = [
 ];
 
 /// The operand's width in bytes, by command.
-const WIDTHS: [usize; 10] = [0, 4, 312, 8, 8, 8, 1416, 40, 8, 8];
+const WIDTHS: [usize; 11] = [0, 4, 312, 8, 8, 8, 1416, 40, 8, 8, 312];
 
-/// The commands in a batch's order.
-pub const ORDER: [u8; 10] = [1, 7, 8, 9, 6, 2, 3, 4, 5, 0];
+/// The least byte that is no command.
+pub const UNKNOWN: u8 = WIDTHS.len() as u8;
 
-/// Each command's place in that order.
-const RANKS: [usize; 10] = {
-    let (mut ranks, mut rank) = ([0; 10], 0);
-    while rank < 10 {
-        ranks[ORDER[rank] as usize] = rank;
-        rank += 1;
+/// Each command's place in a batch's order, which is 01, 07, 08, 09, 06, rows, 03, 04, 05, 00.
+const RANKS: [usize; 11] = [9, 0, 5, 6, 7, 8, 4, 1, 2, 3, 5];
+
+/// The place of a command, with its operand or without, in that order.
+pub fn rank(command: &[u8]) -> Option<usize> {
+    RANKS.get(*command.first()? as usize).copied()
+}
+
+/// The forms of rows.
+pub const FORMS: [Form; 2] = [Form::Plain, Form::Montgomery];
+
+/// The command of a row in this form.
+pub fn row_command(form: Form) -> u8 {
+    match form {
+        Form::Plain => 2,
+        Form::Montgomery => 10,
     }
-    ranks
-};
+}
+
+pub fn other(form: Form) -> Form {
+    match form {
+        Form::Plain => Form::Montgomery,
+        Form::Montgomery => Form::Plain,
+    }
+}
+
+/// The rows that were met up to the answer.
+#[derive(Debug, Clone, Copy, PartialEq, Eq)]
+pub enum Rows {
+    None,
+    Of(Form),
+    Mixed,
+}
 
 const SAMPLED: usize = 4;
 const DIGEST: usize = 5;
 
-/// The words that a batch brings for each of the eight slices, or the number of its refusal.
-pub fn read(bytes: &[u8]) -> Result<[Vec<u64>; 8], u32> {
+/// The words that a batch brings for each of the eight slices, or the number of its refusal; and the rows that were met.
+pub fn read(bytes: &[u8]) -> (Rows, Result<[Vec<u64>; 8], u32>) {
+    let mut rows = Rows::None;
+    let brought = read_rows(bytes, &mut rows);
+    (rows, brought)
+}
+
+fn read_rows(bytes: &[u8], met: &mut Rows) -> Result<[Vec<u64>; 8], u32> {
     let [mut brought @ .., _] = LENGTHS.map(Vec::with_capacity);
     let (mut announced, mut reached) = (None, 0);
     let mut rest = bytes;
@@ -57,10 +89,14 @@ pub fn read(bytes: &[u8]) -> Result<[Vec<u64>; 8], u32> {
                 return if whole && after.is_empty() { Ok(brought) } else { Err(9) };
             }
             (_, Some(rows)) => {
-                let slice = command as usize - 2;
+                let form = FORMS.into_iter().find(|&form| row_command(form) == command);
+                let slice = if form.is_some() { 0 } else { command as usize - 2 };
                 let most = if slice == 0 { rows * MAIN_WIDTH } else { LENGTHS[slice] };
                 let before = &mut brought[slice];
-                if before.len() == most {
+                if let Some(form) = form {
+                    *met = if [Rows::None, Rows::Of(form)].contains(met) { Rows::Of(form) } else { Rows::Mixed };
+                }
+                if before.len() == most || *met == Rows::Mixed {
                     return Err(9);
                 }
                 let words = operand.chunks_exact(8).map(|word| u64::from_le_bytes(word.try_into().unwrap()));
@@ -72,20 +108,24 @@ pub fn read(bytes: &[u8]) -> Result<[Vec<u64>; 8], u32> {
                     return Err(2);
                 }
                 reached = RANKS[command as usize];
-                before.extend(words);
+                match form {
+                    Some(Form::Montgomery) => before.extend(words.map(from_montgomery)),
+                    _ => before.extend(words),
+                }
             }
         }
     }
     Err(8)
 }
 
-/// Reads a batch into lent slices: 0, or the number of the refusal with nothing written.
-pub fn open(bytes: &[u8], slices: [&mut [u64]; 8], counts: &mut [u64]) -> u32 {
+/// Reads a batch into lent slices: 0, or the number of the refusal with nothing written; and the rows that were met.
+pub fn open(bytes: &[u8], slices: [&mut [u64]; 8], counts: &mut [u64]) -> (Rows, u32) {
     let lengths = slices.iter().map(|slice| slice.len()).chain([counts.len()]);
     if bytes.len() > MAX_BYTES || !lengths.eq(LENGTHS) {
-        return 1;
+        return (Rows::None, 1);
     }
-    match read(bytes) {
+    let (rows, brought) = read(bytes);
+    let number = match brought {
         Ok(brought) => {
             let [rows, op_stack, ram, jump_stack, _, _, input, output] = brought.each_ref().map(|words| words.len() as u64);
             counts.copy_from_slice(&[rows / MAIN_WIDTH as u64, op_stack, ram, jump_stack, input, output]);
@@ -95,7 +135,8 @@ pub fn open(bytes: &[u8], slices: [&mut [u64]; 8], counts: &mut [u64]) -> u32 {
             0
         }
         Err(number) => number,
-    }
+    };
+    (rows, number)
 }
 
 /// The bytes of the batch with these slices' contents, whatever their lengths.
@@ -125,8 +166,8 @@ fn put_sorted<'a>(bytes: &'a mut [u8], command: u8, words: &[u64]) -> &'a mut [u
     put_each(bytes, command, &sorted, 1)
 }
 
-/// Writes the batch with these slices' contents: 0, or the number of the refusal with nothing written.
-pub fn write(slices: [&[u64]; 8], bytes: &mut [u8]) -> u32 {
+/// Writes the batch with these slices' contents and rows of this form: 0, or the number of the refusal with nothing written.
+pub fn write(slices: [&[u64]; 8], form: Form, bytes: &mut [u8]) -> u32 {
     let [trace, op_stack, ram, jump_stack, sampled, digest, input, output] = slices;
     let rows = trace.len() / MAIN_WIDTH;
     if trace.len() % MAIN_WIDTH != 0
@@ -151,7 +192,10 @@ pub fn write(slices: [&[u64]; 8], bytes: &mut [u8]) -> u32 {
     let rest = put_each(rest, 8, input, 1);
     let rest = put_each(rest, 9, output, 1);
     let rest = put(rest, 6, sampled);
-    let rest = put_each(rest, 2, trace, MAIN_WIDTH);
+    let rest = match form {
+        Form::Plain => put_each(rest, 2, trace, MAIN_WIDTH),
+        Form::Montgomery => put_each(rest, 10, &trace.iter().copied().map(to_montgomery).collect::<Vec<u64>>(), MAIN_WIDTH),
+    };
     let rest = put_sorted(rest, 3, op_stack);
     let rest = put_sorted(rest, 4, ram);
     let rest = put_sorted(rest, 5, jump_stack);

@@ -2,12 +2,18 @@
 use borrow.Author.Needs.{needs}
 use mathlib.Core.Path.{_≡_, refl, sym, _∙_}
 use mathlib.Core.Bool.{true}
+use mathlib.Core.List.{List}
+use Prim.Native.Nat.{ℕ}
 use lib.Dec.{lit<}
 use lib.ListN.{length}
 use borrow.Author.Tests.{lt-ltb, le-ltb, not-true, not-false}
+use Rattle.field_montgomery.specs.declared.Form.{Form}
+use Rattle.batch_commands.specs.Format.{OP-STACK, RAM, JUMP-STACK, SAMPLED, DIGEST, INPUT, OUTPUT}
 use Rattle.batch_reader.specs.declared.OpenAnswer.the-variants.{Opened}
+use Rattle.batch_reader.specs.Commands.{formOf}
 use Rattle.batch_reader.specs.Reading.{read, reading, commandsOf}
-use Rattle.batch_reader.specs.Answers.{answerOf}
+use Rattle.batch_reader.specs.Answers.{answerOf, brought}
+use Rattle.batch_commands.proofs.Tables.{of-any}
 use Rattle.batch_reader.proofs.Sections.{behind-first}
 use Rattle.batch.specs.Open.{rightLengths, openAnswer, openSlice}
 use Rattle.batch.proofs.Room.{is-read, Room, room}
@@ -27,11 +33,17 @@ to-reading c = rw (le-ltb _ _ (c .before .before .if1 .left), right c)
 abbrev looked : tie.After-answer2 → tie.Else2
 looked c = c .before .before .before
 
-opened : (c : tie.After-answer2) → answerOf (reading (start (looked c .before .before) .args .batch .now)) ≡ Opened (c .answer2 .given .0 .0)
+abbrev batch : tie.After-answer2 → List ℕ
+batch c = start (looked c .before .before) .args .batch .now
+
+abbrev form : tie.After-answer2 → Form
+form c = formOf (commandsOf (reading (batch c)))
+
+opened : (c : tie.After-answer2) → answerOf (reading (batch c)) ≡ Opened (c .answer2 .given .0 .0)
 opened c = sym (c .before .before .read .ensures) ∙ c .answer2 .given .1
 
-read-through : (c : tie.After-answer2) → let batch = start (looked c .before .before) .args .batch .now in reading batch ≡ read (commandsOf (reading batch))
-read-through c = is-read (start (looked c .before .before) .args .batch .now) (c .answer2 .given .0 .0) (opened c)
+read-through : (c : tie.After-answer2) → reading (batch c) ≡ read (commandsOf (reading (batch c)))
+read-through c = is-read (batch c) (c .answer2 .given .0 .0) (opened c)
 
 has-room : (c : tie.After-answer2) → let s = start (looked c .before .before) in Room (s .args .batch .now) (length (s .args .trace .now)) (length (s .args .op-stack .now)) (length (s .args .ram .now)) (length (s .args .jump-stack .now)) (length (s .args .sampled .now)) (length (s .args .digest .now)) (length (s .args .input .now)) (length (s .args .output .now))
 has-room c = let s = start (looked c .before .before) in room (s .args .batch .now) (length (s .args .trace .now)) (length (s .args .op-stack .now)) (length (s .args .ram .now)) (length (s .args .jump-stack .now)) (length (s .args .sampled .now)) (length (s .args .digest .now)) (length (s .args .input .now)) (length (s .args .output .now)) (read-through c) (right (looked c))
@@ -49,16 +61,16 @@ told-3 c = told-2 (c .before .before .before .before)
 abbrev told-4 : tie.After-put-section4 → tie.After-answer2
 told-4 c = told-3 (c .before .before .before .before)
 
-abbrev told-5 : tie.After-put-section5 → tie.After-answer2
+abbrev told-5 : tie.After-put-rows → tie.After-answer2
 told-5 c = told-4 (c .before .before .before .before)
 
-abbrev told-6 : tie.After-put-section6 → tie.After-answer2
+abbrev told-6 : tie.After-put-section5 → tie.After-answer2
 told-6 c = told-5 (c .before .before .before .before)
 
-abbrev told-7 : tie.After-put-section7 → tie.After-answer2
+abbrev told-7 : tie.After-put-section6 → tie.After-answer2
 told-7 c = told-6 (c .before .before .before .before)
 
-abbrev told-8 : tie.After-put-section8 → tie.After-answer2
+abbrev told-8 : tie.After-put-section7 → tie.After-answer2
 told-8 c = told-7 (c .before .before .before .before)
 
 returns : tie.Need-returns
@@ -82,28 +94,35 @@ enum-known-answer-2 : tie.Need-enum-known-answer-2
 enum-known-answer-2 c = search needs
 
 put-section-requires : tie.Need-put-section-requires
-put-section-requires c κs = let t = c .before .before in (read-through t, ((lit< tt, lit< tt, sym (behind-first _ _ (read-through t))), has-room t .for-digest))
+unfolding brought
+put-section-requires c κs = let t = c .before .before in (read-through t, ((lit< tt, lit< tt, of-any (form t) DIGEST refl), (sym (behind-first (batch t) (commandsOf (reading (batch t))) (read-through t)), has-room t .for-digest)))
 
 put-section-requires-2 : tie.Need-put-section-requires-2
-put-section-requires-2 c κs = let p = c .before .before .before in (read-through (told p), ((lit< tt, lit< tt, p .put-section .ensures .0), has-room (told p) .for-input))
+unfolding brought
+put-section-requires-2 c κs = let p = c .before .before .before in (read-through (told p), ((lit< tt, lit< tt, of-any (form (told p)) INPUT refl), (p .put-section .ensures .0, has-room (told p) .for-input)))
 
 put-section-requires-3 : tie.Need-put-section-requires-3
-put-section-requires-3 c κs = let p = c .before .before .before in (read-through (told-2 p), ((lit< tt, lit< tt, p .put-section2 .ensures .0), has-room (told-2 p) .for-output))
+unfolding brought
+put-section-requires-3 c κs = let p = c .before .before .before in (read-through (told-2 p), ((lit< tt, lit< tt, of-any (form (told-2 p)) OUTPUT refl), (p .put-section2 .ensures .0, has-room (told-2 p) .for-output)))
 
 put-section-requires-4 : tie.Need-put-section-requires-4
-put-section-requires-4 c κs = let p = c .before .before .before in (read-through (told-3 p), ((lit< tt, lit< tt, p .put-section3 .ensures .0), has-room (told-3 p) .for-sampled))
+unfolding brought
+put-section-requires-4 c κs = let p = c .before .before .before in (read-through (told-3 p), ((lit< tt, lit< tt, of-any (form (told-3 p)) SAMPLED refl), (p .put-section3 .ensures .0, has-room (told-3 p) .for-sampled)))
+
+put-rows-requires : tie.Need-put-rows-requires
+put-rows-requires c κs = let p = c .before .before .before in (read-through (told-4 p), (p .put-section4 .ensures .0, has-room (told-4 p) .for-trace))
 
 put-section-requires-5 : tie.Need-put-section-requires-5
-put-section-requires-5 c κs = let p = c .before .before .before in (read-through (told-4 p), ((lit< tt, lit< tt, p .put-section4 .ensures .0), has-room (told-4 p) .for-trace))
+unfolding brought
+put-section-requires-5 c κs = let p = c .before .before .before in (read-through (told-5 p), ((lit< tt, lit< tt, of-any (form (told-5 p)) OP-STACK refl), (p .put-rows .ensures .0, has-room (told-5 p) .for-op-stack)))
 
 put-section-requires-6 : tie.Need-put-section-requires-6
-put-section-requires-6 c κs = let p = c .before .before .before in (read-through (told-5 p), ((lit< tt, lit< tt, p .put-section5 .ensures .0), has-room (told-5 p) .for-op-stack))
+unfolding brought
+put-section-requires-6 c κs = let p = c .before .before .before in (read-through (told-6 p), ((lit< tt, lit< tt, of-any (form (told-6 p)) RAM refl), (p .put-section5 .ensures .0, has-room (told-6 p) .for-ram)))
 
 put-section-requires-7 : tie.Need-put-section-requires-7
-put-section-requires-7 c κs = let p = c .before .before .before in (read-through (told-6 p), ((lit< tt, lit< tt, p .put-section6 .ensures .0), has-room (told-6 p) .for-ram))
-
-put-section-requires-8 : tie.Need-put-section-requires-8
-put-section-requires-8 c κs = let p = c .before .before .before in (read-through (told-7 p), ((lit< tt, lit< tt, p .put-section7 .ensures .0), has-room (told-7 p) .for-jump-stack))
+unfolding brought
+put-section-requires-7 c κs = let p = c .before .before .before in (read-through (told-7 p), ((lit< tt, lit< tt, of-any (form (told-7 p)) JUMP-STACK refl), (p .put-section6 .ensures .0, has-room (told-7 p) .for-jump-stack)))
 
 returns-3 : tie.Need-returns-3
 unfolding openSlice
@@ -111,16 +130,16 @@ returns-3 c =
     let done = c .before .before .before in
     (sym (to-reading (done .before) ∙ sym (done .read .ensures) ∙ c .before .answer .given .1), (refl, (refl, (refl, (refl, (refl, (refl, (refl, refl))))))))
 
-abbrev put-8 : tie.After-slice-known16 → tie.After-put-section8
+abbrev put-8 : tie.After-slice-known16 → tie.After-put-section7
 put-8 c = c .before .before
 
-abbrev put-7 : tie.After-slice-known16 → tie.After-put-section7
+abbrev put-7 : tie.After-slice-known16 → tie.After-put-section6
 put-7 c = put-8 c .before .before .before .before
 
-abbrev put-6 : tie.After-slice-known16 → tie.After-put-section6
+abbrev put-6 : tie.After-slice-known16 → tie.After-put-section5
 put-6 c = put-7 c .before .before .before .before
 
-abbrev put-5 : tie.After-slice-known16 → tie.After-put-section5
+abbrev put-5 : tie.After-slice-known16 → tie.After-put-rows
 put-5 c = put-6 c .before .before .before .before
 
 abbrev put-4 : tie.After-slice-known16 → tie.After-put-section4
@@ -136,34 +155,34 @@ abbrev put-1 : tie.After-slice-known16 → tie.After-put-section
 put-1 c = put-2 c .before .before .before .before
 
 same-length : tie.Need-same-length
-same-length c = put-5 c .put-section5 .kept .1 .1 .1 .0
+same-length c = put-5 c .put-rows .kept .1 .1 .0
 
 same-length-2 : tie.Need-same-length-2
-same-length-2 c = put-6 c .put-section6 .kept .1 .1 .1 .0
+same-length-2 c = put-6 c .put-section5 .kept .1 .1 .1 .1 .0
 
 same-length-3 : tie.Need-same-length-3
-same-length-3 c = put-7 c .put-section7 .kept .1 .1 .1 .0
+same-length-3 c = put-7 c .put-section6 .kept .1 .1 .1 .1 .0
 
 same-length-4 : tie.Need-same-length-4
-same-length-4 c = put-8 c .put-section8 .kept .1 .1 .1 .0
+same-length-4 c = put-8 c .put-section7 .kept .1 .1 .1 .1 .0
 
 same-length-5 : tie.Need-same-length-5
-same-length-5 c = put-4 c .put-section4 .kept .1 .1 .1 .0
+same-length-5 c = put-4 c .put-section4 .kept .1 .1 .1 .1 .0
 
 same-length-6 : tie.Need-same-length-6
-same-length-6 c = put-1 c .put-section .kept .1 .1 .1 .0
+same-length-6 c = put-1 c .put-section .kept .1 .1 .1 .1 .0
 
 same-length-7 : tie.Need-same-length-7
-same-length-7 c = put-2 c .put-section2 .kept .1 .1 .1 .0
+same-length-7 c = put-2 c .put-section2 .kept .1 .1 .1 .1 .0
 
 same-length-8 : tie.Need-same-length-8
-same-length-8 c = put-3 c .put-section3 .kept .1 .1 .1 .0
+same-length-8 c = put-3 c .put-section3 .kept .1 .1 .1 .1 .0
 
 returns-4 : tie.Need-returns-4
-unfolding openSlice
+unfolding openSlice brought
 returns-4 c =
     let t = told-8 (put-8 c) in
-    (sym (to-reading (t .before .before .before) ∙ opened t), (put-5 c .put-section5 .ensures .1, (put-6 c .put-section6 .ensures .1, (put-7 c .put-section7 .ensures .1, (put-8 c .put-section8 .ensures .1, (put-4 c .put-section4 .ensures .1, (put-1 c .put-section .ensures .1, (put-2 c .put-section2 .ensures .1, (put-3 c .put-section3 .ensures .1)))))))))
+    (sym (to-reading (t .before .before .before) ∙ opened t), (put-5 c .put-rows .ensures .1, (put-6 c .put-section5 .ensures .1, (put-7 c .put-section6 .ensures .1, (put-8 c .put-section7 .ensures .1, (put-4 c .put-section4 .ensures .1, (put-1 c .put-section .ensures .1, (put-2 c .put-section2 .ensures .1, (put-3 c .put-section3 .ensures .1)))))))))
 
 pub open-spec : {M : Type 1} → statement M
 open-spec =
@@ -179,10 +198,10 @@ open-spec =
     put-section-requires-2
     put-section-requires-3
     put-section-requires-4
+    put-rows-requires
     put-section-requires-5
     put-section-requires-6
     put-section-requires-7
-    put-section-requires-8
     returns-3
     same-length
     same-length-2

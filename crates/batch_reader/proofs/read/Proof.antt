@@ -43,7 +43,7 @@ use denote.Triple.Spec.{Meets, tripleOf}
 use denote.Triple.Table.{entered, cited}
 use denote.Triple.Walked.{says, Stays, stay-none-slice, walkOf, goes-none-slice, Walks, ends-at, walked, walk-meets}
 use denote.Exit.{yes}
-use Rattle.batch_commands.specs.Format.{width}
+use Rattle.batch_commands.specs.Format.{COMMANDS, width}
 use Rattle.batch_commands.specs.Fault.{headOf}
 use Rattle.batch_commands.specs.declared.Head.{Head}
 use Rattle.batch_reader.specs.declared.OpenAnswer.{OpenAnswer}
@@ -253,7 +253,7 @@ module _ {M : Type 1} (𝓤 : URA M) (H : Heap 𝓤) (A : Atoms 𝓤) (W : Given
 
     module _ (k : ℕ) (next : stepOf (x .seen) bytes ≡ Next k) (k-fits : k < 2 ^ 64) where
       abbrev Asked : Type 0
-      Asked = (k < 10) × (x .at + 1 + width k ≤ length (now s)) × (list.getD (x .seen .came) k 0 ≤ 128)
+      Asked = (k < COMMANDS) × (x .at + 1 + width k ≤ length (now s)) × (list.getD (x .seen .came) k 0 ≤ 128)
 
       abbrev seen′ : Seen
       seen′ = seenPast (x .seen) k (list.drop (x .at + 1) (now s))
@@ -273,7 +273,7 @@ module _ {M : Type 1} (𝓤 : URA M) (H : Heap 𝓤) (A : Atoms 𝓤) (W : Given
       to-past = (((κ, tt), (q, tt), tt, (opened s (x .at), (k, tt)), (o ∷ [], (vint w64 k ∷ [], tt))), tt)
 
       abbrev Whole : Type 0
-      Whole = (k < 10) × (x .at + 1 + width k ≤ length (now s))
+      Whole = (k < COMMANDS) × (x .at + 1 + width k ≤ length (now s))
 
       goes-past : ent 𝓤 (⋆ 𝓤 H A (Token ∷ ‵ Own ∷ [])) (sep 𝓤 (Past 𝓤 H A mem run .pre to-past) (sem 𝓤 H A Own))
       goes-past = sends (owns (B κ ∷ usize ∷ []) (opened s (x .at), (k, tt)) (o ∷ [], (vint w64 k ∷ [], tt))) (fact 𝓤 Whole)

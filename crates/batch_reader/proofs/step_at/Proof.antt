@@ -6,7 +6,7 @@ use native.Mathlib.Omega.{arith}
 use lib.ListN.{length, drop, length-drop}
 use lib.Seq.{drop-drop}
 use borrow.Author.Tests.{eq-eqb, ne-eqb}
-use Rattle.batch_commands.specs.Format.{width}
+use Rattle.batch_commands.specs.Format.{COMMANDS, width}
 use Rattle.batch_commands.specs.Fault.{judged}
 use Rattle.batch_reader.specs.Steps.{stepBy, stepOf}
 use Rattle.batch_reader.proofs.Faults.{unknown-step, cut-off-step, whole-step}
@@ -17,7 +17,7 @@ abbrev start : tie.After-head → tie.Start
 start c = c .before .before .before
 
 whole : (c : tie.After-head) → let args = start c .args in let k = c .head .given .0 .0 in
-    (k < 10) × (args .at + 1 + width k ≤ length (args .batch .now)) × (stepOf (args .seen) (drop (args .at) (args .batch .now)) ≡ stepBy (judged (args .seen) k (drop (args .at + 1) (args .batch .now))) k (args .seen .came))
+    (k < COMMANDS) × (args .at + 1 + width k ≤ length (args .batch .now)) × (stepOf (args .seen) (drop (args .at) (args .batch .now)) ≡ stepBy (judged (args .seen) k (drop (args .at + 1) (args .batch .now))) k (args .seen .came))
 whole c =
     let args = start c .args in
     let w = whole-step (args .seen) (drop (args .at) (args .batch .now)) (c .head .given .0 .0) (sym (start c .pre) ∙ c .head .given .1) in

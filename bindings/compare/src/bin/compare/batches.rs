@@ -1,11 +1,12 @@
 //! Opening, and writing what was opened.
 
 use compare::builder::Builder;
-use compare::plain::batch::{self, LENGTHS, ORDER};
+use compare::plain::batch::{self, other, rank, row_command, Rows, FORMS, LENGTHS, UNKNOWN};
+use compare::plain::to_montgomery;
 use compare::random::{Random, EDGES};
 use compare::tally::Tally;
 use tealbobbin::abi;
-use tealbobbin::batch::{MAX_BYTES, MAX_DIFFERENCES, MAX_IO_WORDS};
+use tealbobbin::batch::{Form, MAX_BYTES, MAX_DIFFERENCES, MAX_IO_WORDS};
 use tealbobbin::field::P;
 use tealbobbin::processor::MAIN_WIDTH;
 
@@ -15,9 +16,10 @@ const LISTS: [(u8, usize); 5] =
 
 /// The nine slices in one row of words, each followed by a word that is lent to nobody.
 struct Opening<'a> {
-    tally: Tally,
-    /// What opens, written again.
-    again: Tally,
+    /// By the rows that were met: none, plain ones, ones in Montgomery form, both.
+    tallies: [Tally; 4],
+    /// What opens, written again in the form that it had.
+    again: [Tally; 2],
     random: &'a mut Random,
     lengths: [usize; 9],
     before: Vec<u64>,
@@ -35,7 +37,7 @@ fn slices(mut words: &[u64], lengths: [usize; 9]) -> [&[u64]; 9] {
 }
 
 /// Calls with the slices that stand in the words.
-fn call(open: impl Fn(&[u8], [&mut [u64]; 8], &mut [u64]) -> u32, bytes: &[u8], words: &mut [u64], lengths: [usize; 9]) -> u32 {
+fn call<T>(open: impl Fn(&[u8], [&mut [u64]; 8], &mut [u64]) -> T, bytes: &[u8], words: &mut [u64], lengths: [usize; 9]) -> T {
     let mut rest = words;
     let [slices @ .., counts] = lengths.map(|length| {
         let (slice, after) = std::mem::take(&mut rest).split_at_mut(length);
@@ -46,9 +48,10 @@ fn call(open: impl Fn(&[u8], [&mut [u64]; 8], &mut [u64]) -> u32, bytes: &[u8], 
 }
 
 impl Opening<'_> {
-    fn new<'a>(name: &'static str, random: &'a mut Random) -> Opening<'a> {
-        let (tally, again) = (Tally::new(name), Tally::new("write, what opened"));
-        let mut opening = Opening { tally, again, random, lengths: LENGTHS, before: vec![], ours: vec![], expected: vec![] };
+    fn new(random: &mut Random) -> Opening<'_> {
+        let tallies = ["open, no row met", "open, plain rows", "open, rows in Montgomery form", "open, mixed rows"].map(Tally::new);
+        let again = ["write, what opened, plain rows", "write, what opened, rows in Montgomery form"].map(Tally::new);
+        let mut opening = Opening { tallies, again, random, lengths: LENGTHS, before: vec![], ours: vec![], expected: vec![] };
         opening.lend(LENGTHS);
         opening
     }
@@ -63,12 +66,18 @@ impl Opening<'_> {
 
     /// The number and every word of every slice; answers the number that was expected.
     fn check(&mut self, what: &str, bytes: &[u8]) -> u32 {
-        let number = call(batch::open, bytes, &mut self.expected, self.lengths);
+        let (rows, number) = call(batch::open, bytes, &mut self.expected, self.lengths);
         let got = call(abi::open, bytes, &mut self.ours, self.lengths);
         let shown: Vec<u64> = [bytes.len() as u64].into_iter().chain(bytes.iter().map(|&byte| byte as u64)).take(16).collect();
-        self.tally.check(what, &shown, &self.before, (got, &self.ours), number, &self.expected);
-        if number == 0 && got == 0 && self.ours == self.expected {
-            self.write_again(what, &shown, bytes);
+        let tally = match rows {
+            Rows::None => 0,
+            Rows::Of(form) => 1 + form as usize,
+            Rows::Mixed => 3,
+        };
+        self.tallies[tally].check(what, &shown, &self.before, (got, &self.ours), number, &self.expected);
+        match rows {
+            Rows::Of(form) if number == 0 && got == 0 && self.ours == self.expected => self.write_again(what, &shown, form, bytes),
+            _ => (),
         }
         if number == 0 || got != number || self.ours != self.before {
             self.lend(self.lengths);
@@ -76,23 +85,23 @@ impl Opening<'_> {
         number
     }
 
-    /// The batch that was opened is the one that its contents are written as.
-    fn write_again(&mut self, what: &str, shown: &[u64], bytes: &[u8]) {
+    /// The batch that was opened is the one that its contents are written as, in this form.
+    fn write_again(&mut self, what: &str, shown: &[u64], form: Form, bytes: &[u8]) {
         let [contents @ .., counts] = slices(&self.ours, self.lengths);
         let [rows, op_stack, ram, jump_stack, input, output] = std::array::from_fn(|count| counts[count] as usize);
         let brought = [rows * MAIN_WIDTH, op_stack, ram, jump_stack, LENGTHS[4], LENGTHS[5], input, output];
         let contents = std::array::from_fn(|slice| &contents[slice][..brought[slice]]);
         let before = vec![0xa5; bytes.len()];
         let mut written = before.clone();
-        let got = abi::write(contents, &mut written);
-        self.again.check(what, shown, &before, (got, &written), 0, bytes);
+        let got = abi::write(contents, form as u64, &mut written);
+        self.again[form as usize].check(what, shown, &before, (got, &written), 0, bytes);
     }
 
     /// As `check`, where only one number can be meant.
     fn expect(&mut self, what: &str, bytes: &[u8], number: u32) {
         let meant = self.check(what, bytes);
         if meant != number {
-            self.tally.differ(format!("{what}: a case for {number} is one for {meant}"));
+            self.tallies[0].differ(format!("{what}: a case for {number} is one for {meant}"));
         }
     }
 
@@ -121,12 +130,24 @@ fn shuffle(random: &mut Random, commands: &mut [Vec<u8>]) {
     }
 }
 
-/// A batch with these counts.
-fn whole(random: &mut Random, rows: usize, counts: [usize; 5]) -> Builder {
+/// A row's words in this form. In Montgomery form some are edge words as they are sent, some as they are opened.
+fn row(random: &mut Random, form: Form) -> [u64; MAIN_WIDTH] {
+    std::array::from_fn(|_| match form {
+        Form::Montgomery if random.word() % 2 == 0 => to_montgomery(random.base()),
+        _ => random.base(),
+    })
+}
+
+fn is_row(command: &[u8]) -> bool {
+    FORMS.iter().any(|&form| row_command(form) == command[0])
+}
+
+/// A batch with these counts, and rows of this form.
+fn whole(random: &mut Random, form: Form, rows: usize, counts: [usize; 5]) -> Builder {
     let mut batch = Builder::default();
     batch.rows(rows as u32).command(6, &words(random, 177)).command(7, &words(random, 5));
     for _ in 0..rows {
-        batch.command(2, &words(random, MAIN_WIDTH));
+        batch.row_as_sent(form, &row(random, form));
     }
     for ((command, _), count) in LISTS.into_iter().zip(counts) {
         for _ in 0..count {
@@ -137,42 +158,50 @@ fn whole(random: &mut Random, rows: usize, counts: [usize; 5]) -> Builder {
 }
 
 /// The same with as many of everything as there may be.
-fn largest(random: &mut Random) -> Builder {
-    whole(random, 32, LISTS.map(|list| list.1))
+fn largest(random: &mut Random, form: Form) -> Builder {
+    whole(random, form, 32, LISTS.map(|list| list.1))
 }
 
-/// The same with counts at random, most of them low.
+/// The same with form and counts at random, most of them low.
 fn random_whole(random: &mut Random) -> Builder {
+    let form = FORMS[below(random, 2)];
     let most = [1, 1, 1, 2, 3, 128][below(random, 6)];
     let rows = 1 + below(random, most.min(32));
     let counts = LISTS.map(|(_, list)| below(random, most.min(list) + 1));
-    whole(random, rows, counts)
+    whole(random, form, rows, counts)
 }
 
-/// Every number of rows, every count of each list, the largest batch, and `count` others; then slices of other lengths.
+/// In each form every number of rows, every count of each list, and the largest batch; `count` others.
 fn sound(opening: &mut Opening, count: u64) {
-    for rows in 1..=32 {
-        let batch = whole(opening.random, rows, [rows, 0, 1, 2, 3]);
-        opening.expect("rows", &batch.bytes(), 0);
-    }
-    for (list, (_, most)) in LISTS.into_iter().enumerate() {
-        for n in 0..=most {
-            let mut counts = [0; 5];
-            counts[list] = n;
-            let batch = whole(opening.random, 1, counts);
-            opening.expect("counts", &batch.bytes(), 0);
+    for form in FORMS {
+        for rows in 1..=32 {
+            let batch = whole(opening.random, form, rows, [rows, 0, 1, 2, 3]);
+            opening.expect("rows", &batch.bytes(), 0);
         }
-    }
-    for _ in 0..100 {
-        let bytes = largest(opening.random).bytes();
-        assert_eq!(bytes.len(), 16_088);
-        opening.expect("largest", &bytes, 0);
+        for (list, (_, most)) in LISTS.into_iter().enumerate() {
+            for n in 0..=most {
+                let mut counts = [0; 5];
+                counts[list] = n;
+                let batch = whole(opening.random, form, 1, counts);
+                opening.expect("counts", &batch.bytes(), 0);
+            }
+        }
+        for _ in 0..100 {
+            let bytes = largest(opening.random, form).bytes();
+            assert_eq!(bytes.len(), 16_088);
+            opening.expect("largest", &bytes, 0);
+        }
     }
     for _ in 0..count {
         let batch = random_whole(opening.random);
         opening.expect("whole", &batch.bytes(), 0);
     }
-    let batches = [whole(opening.random, 1, [1; 5]).bytes(), largest(opening.random).bytes(), vec![], vec![10], vec![0; MAX_BYTES + 1]];
+}
+
+/// Slices of other lengths.
+fn lengths(opening: &mut Opening, form: Form) {
+    let (least, most) = (whole(opening.random, form, 1, [1; 5]).bytes(), largest(opening.random, form).bytes());
+    let batches = [least, most, vec![], vec![UNKNOWN], vec![0; MAX_BYTES + 1]];
     for (slice, length) in LENGTHS.into_iter().enumerate() {
         for other in [0, length - 1, length + 1, length + MAIN_WIDTH, 2 * length, LENGTHS[(slice + 4) % 9]] {
             let mut lengths = LENGTHS;
@@ -189,15 +218,15 @@ fn sound(opening: &mut Opening, count: u64) {
 }
 
 /// Batches cut off at every length; every byte changed; every command byte in every command's place.
-fn every_byte(opening: &mut Opening) {
-    let (least, mixed, most) = (whole(opening.random, 1, [0; 5]), whole(opening.random, 3, [2; 5]), largest(opening.random));
-    for batch in [&least, &mixed, &most] {
+fn every_byte(opening: &mut Opening, form: Form) {
+    let [least, some] = [(1, [0; 5]), (3, [2; 5])].map(|(rows, counts)| whole(opening.random, form, rows, counts));
+    for batch in [&least, &some, &largest(opening.random, form)] {
         let bytes = batch.bytes();
         for length in 0..bytes.len() {
             opening.expect("cut off", &bytes[..length], 8);
         }
     }
-    for batch in [&least, &mixed] {
+    for batch in [&least, &some] {
         let bytes = batch.bytes();
         for place in 0..bytes.len() {
             for change in [1, 128, 255] {
@@ -217,8 +246,8 @@ fn every_byte(opening: &mut Opening) {
 }
 
 /// A word that is not below p in every place of every operand; with a later fault, and with an earlier one.
-fn bad_words(opening: &mut Opening) {
-    let batch = whole(opening.random, 2, [2; 5]);
+fn bad_words(opening: &mut Opening, form: Form) {
+    let batch = whole(opening.random, form, 2, [2; 5]);
     for (place, command) in batch.commands.iter().enumerate().filter(|(_, command)| command.len() > 8) {
         for from in (1..command.len()).step_by(8) {
             for word in [P, P + 1, u64::MAX, bad(opening.random)] {
@@ -228,7 +257,7 @@ fn bad_words(opening: &mut Opening) {
                 let cut = batch.commands[..=place].concat();
                 opening.expect("bad word, then the end", &cut, 2);
                 opening.expect("bad word cut off", &cut[..cut.len() - 1], 8);
-                batch.commands.insert(place + 1, vec![10]);
+                batch.commands.insert(place + 1, vec![UNKNOWN]);
                 opening.expect("bad word, then no command", &batch.bytes(), 2);
                 batch.commands.swap(place, place + 1);
                 opening.expect("no command, then bad word", &batch.bytes(), 7);
@@ -237,26 +266,72 @@ fn bad_words(opening: &mut Opening) {
     }
 }
 
+/// Each edge word in every place of a row, as it is sent and, where the row is in Montgomery form, as it is opened.
+fn edge_words(opening: &mut Opening, form: Form) {
+    let batch = whole(opening.random, form, 2, [0; 5]);
+    for (at, command) in batch.commands.iter().enumerate().filter(|(_, command)| is_row(command)) {
+        for from in (1..command.len()).step_by(8) {
+            let opened = EDGES.into_iter().filter(|&word| form == Form::Montgomery && word < P).map(to_montgomery);
+            for word in EDGES.into_iter().chain(opened) {
+                let mut batch = batch.clone();
+                batch.commands[at][from..from + 8].copy_from_slice(&word.to_le_bytes());
+                opening.expect("edge word", &batch.bytes(), if word < P { 0 } else { 2 });
+            }
+        }
+    }
+}
+
+/// One row in the other form, in every place among every number of rows: whole, cut off, with words not below p; and rows of either
+/// form behind a difference.
+fn mixtures(opening: &mut Opening, form: Form) {
+    for rows in 2..=32 {
+        let batch = whole(opening.random, form, rows, [1; 5]);
+        let first = batch.commands.iter().position(|command| is_row(command)).unwrap();
+        for place in first..first + rows {
+            let mut mixed = batch.clone();
+            mixed.commands[place][0] = row_command(other(form));
+            opening.expect("mixture", &mixed.bytes(), 9);
+            if place == first {
+                continue;
+            }
+            let before = Builder { commands: batch.commands[..place].to_vec() };
+            let late = before.clone().op_stack(0).clone();
+            for (form, in_place, behind) in [(form, 2, 10), (other(form), 9, 9)] {
+                for words in [[P; MAIN_WIDTH], [u64::MAX; MAIN_WIDTH]] {
+                    let row = Builder::default().row_as_sent(form, &words).bytes();
+                    opening.after("bad words", &before, &row, in_place);
+                    opening.after("bad words, late", &late, &row, behind);
+                    opening.after("cut off", &before, &row[..312], 8);
+                    opening.after("cut off, late", &late, &row[..312], 8);
+                }
+                let row = Builder::default().row_as_sent(form, &row(opening.random, form)).bytes();
+                opening.after("a row", &before, &row, if in_place == 9 { 9 } else { 8 });
+                opening.after("a row, late", &late, &row, behind);
+            }
+        }
+    }
+}
+
 /// 01 with every kind of number, and with other commands before it; rows missing and rows too many.
-fn rows(opening: &mut Opening) {
+fn rows(opening: &mut Opening, form: Form) {
     let powers = (0..32).map(|k| 1u32 << k);
     for announced in (0..300).chain(powers).chain([u32::MAX, u32::MAX - 31, 1 << 24 | 1]) {
         let batch = Builder::default().rows(announced).clone();
         let number = if (1..=32).contains(&announced) { 8 } else { 3 };
         opening.after("announced", &batch, &[], number);
-        opening.after("announced, then no command", &batch, &[10], if number == 3 { 3 } else { 7 });
+        opening.after("announced, then no command", &batch, &[UNKNOWN], if number == 3 { 3 } else { 7 });
         opening.after("announced, then 00", &batch, &[0], if number == 3 { 3 } else { 9 });
     }
     for announced in 1..=32 {
         for rows in 1..=32 {
-            let mut batch = whole(opening.random, rows, [1; 5]);
+            let mut batch = whole(opening.random, form, rows, [1; 5]);
             batch.commands[0] = Builder::default().rows(announced as u32).bytes();
             opening.expect("rows", &batch.bytes(), if announced == rows { 0 } else { 9 });
             batch.commands.pop();
             opening.expect("rows without 00", &batch.bytes(), if rows > announced { 9 } else { 8 });
         }
     }
-    let batch = whole(opening.random, 1, [1; 5]);
+    let batch = whole(opening.random, form, 1, [1; 5]);
     for first in 1..batch.commands.len() {
         let mut batch = batch.clone();
         batch.commands.swap(0, first);
@@ -272,11 +347,11 @@ fn rows(opening: &mut Opening) {
 }
 
 /// One command more than there may be, in every place after the last that may: whole, with a bad word, cut off.
-fn past_counts(opening: &mut Opening) {
-    let batch = whole(opening.random, 2, LISTS.map(|list| list.1));
+fn past_counts(opening: &mut Opening, form: Form) {
+    let batch = whole(opening.random, form, 2, LISTS.map(|list| list.1));
     let end = batch.commands.len() - 1;
-    for (command, width) in [(1, 4), (2, 312), (3, 8), (4, 8), (5, 8), (6, 1416), (7, 40), (8, 8), (9, 8)] {
-        let last = batch.commands.iter().rposition(|other| other[0] == command).unwrap();
+    for (command, width) in [(1, 4), (2, 312), (3, 8), (4, 8), (5, 8), (6, 1416), (7, 40), (8, 8), (9, 8), (10, 312)] {
+        let last = batch.commands.iter().rposition(|other| rank(other) == rank(&[command])).unwrap();
         for place in last + 1..=end {
             for fill in [0, 255] {
                 let mut before = Builder { commands: batch.commands[..place].to_vec() };
@@ -291,13 +366,9 @@ fn past_counts(opening: &mut Opening) {
     }
 }
 
-fn rank(command: &[u8]) -> usize {
-    ORDER.iter().position(|&other| other == command[0]).unwrap()
-}
-
 /// Every command moved to every place; one more of each list in every place; differences beside the one before, or far from it.
-fn orders(opening: &mut Opening) {
-    let batch = whole(opening.random, 2, [2; 5]);
+fn orders(opening: &mut Opening, form: Form) {
+    let batch = whole(opening.random, form, 2, [2; 5]);
     let end = batch.commands.len() - 1;
     for from in 1..end {
         for to in 1..end {
@@ -329,7 +400,7 @@ fn orders(opening: &mut Opening) {
             }
         }
     }
-    let least = whole(opening.random, 1, [0; 5]);
+    let least = whole(opening.random, form, 1, [0; 5]);
     for command in 3..=5 {
         for before in EDGES.into_iter().filter(|&word| word < P) {
             for word in EDGES.into_iter().chain([before.saturating_sub(1), before, before + 1]) {
@@ -343,12 +414,12 @@ fn orders(opening: &mut Opening) {
 }
 
 /// 00 in every place, with a command missing and with bytes after it; about 16,384 bytes; five commands in every order.
-fn ends(opening: &mut Opening) {
-    let (batch, most) = (whole(opening.random, 3, [3; 5]), largest(opening.random));
+fn ends(opening: &mut Opening, form: Form) {
+    let (batch, most) = (whole(opening.random, form, 3, [3; 5]), largest(opening.random, form));
     for place in 0..batch.commands.len() {
         let mut missing = batch.clone();
         let command = missing.commands.remove(place)[0];
-        let number = [8, 9, 9, 0, 0, 0, 9, 9, 0, 0][command as usize];
+        let number = [8, 9, 9, 0, 0, 0, 9, 9, 0, 0, 9][command as usize];
         opening.expect("missing", &missing.bytes(), number);
         let mut early = batch.clone();
         early.commands.insert(place, vec![0]);
@@ -363,13 +434,13 @@ fn ends(opening: &mut Opening) {
         bytes.resize(length, length as u8);
         let number = if length > MAX_BYTES { 1 } else if length == 16_088 { 0 } else if length < 16_088 { 8 } else { 9 };
         opening.expect("length", &bytes, number);
-        bytes.fill(10);
+        bytes.fill(UNKNOWN);
         opening.expect("length of rubbish", &bytes, if length > MAX_BYTES { 1 } else { 7 });
     }
     for length in [MAX_BYTES + 1, 1 << 16, 1 << 20] {
-        opening.expect("too long", &vec![10; length], 1);
+        opening.expect("too long", &vec![UNKNOWN; length], 1);
     }
-    let five = Builder::default().rows(1).command(2, &[0; MAIN_WIDTH]).command(6, &[0; 177]).command(7, &[0; 5]).end().clone();
+    let five = Builder::default().rows(1).row_as_sent(form, &[0; MAIN_WIDTH]).sampled(&[0; 177]).digest(&[0; 5]).end().clone();
     for order in 0..5usize.pow(5) {
         let commands = [1, 5, 25, 125, 625].map(|power| five.commands[order / power % 5].as_slice());
         opening.check("order", &commands.concat());
@@ -380,8 +451,12 @@ fn ends(opening: &mut Opening) {
 fn damage_commands(random: &mut Random, commands: &mut Vec<Vec<u8>>) {
     let (at, other) = (below(random, commands.len()), below(random, commands.len()));
     let command = commands[at].clone();
-    match random.word() % 12 {
+    match random.word() % 13 {
         0 => commands.swap(at, other),
+        11 => {
+            let rows: Vec<usize> = (0..commands.len()).filter(|&at| is_row(&commands[at])).collect();
+            commands[rows[below(random, rows.len())]][0] ^= 2 ^ 10;
+        }
         1 => shuffle(random, commands),
         2 => commands.insert(other, command),
         8 => {
@@ -395,7 +470,7 @@ fn damage_commands(random: &mut Random, commands: &mut Vec<Vec<u8>>) {
             commands[at][1..].copy_from_slice(&other.to_le_bytes());
         }
         3 => commands[at].truncate(below(random, command.len())),
-        4 => commands[at][0] = random.word() as u8 % [10, 12, 255][below(random, 3)],
+        4 => commands[at][0] = random.word() as u8 % [UNKNOWN, UNKNOWN + 2, 255][below(random, 3)],
         5 => {
             let announced = [0, 33, 1 << 31, 1 << 24, random.word() as u32, random.word() as u32 % 40][below(random, 6)];
             commands[0] = Builder::default().rows(announced).bytes();
@@ -417,10 +492,10 @@ fn damage_bytes(random: &mut Random, bytes: &mut Vec<u8>) {
     match random.word() % 8 {
         0 => bytes[place] ^= 1 << (random.word() % 8),
         1 => bytes[place] = random.word() as u8,
-        2 => bytes[place] = random.word() as u8 % 11,
+        2 => bytes[place] = random.word() as u8 % (UNKNOWN + 1),
         3 => bytes.truncate(place),
         4 => drop(bytes.drain(place..(place + n).min(bytes.len()))),
-        5 => drop(bytes.splice(place..place, (0..n).map(|_| random.word() as u8 % 11))),
+        5 => drop(bytes.splice(place..place, (0..n).map(|_| random.word() as u8 % (UNKNOWN + 1)))),
         6 => bytes.extend((0..n).map(|_| random.word() as u8)),
         _ if random.word() % 8 == 0 => bytes.resize(MAX_BYTES + n, 0),
         _ => bytes[place..].fill(255),
@@ -444,15 +519,16 @@ fn damaged(random: &mut Random, batch: &Builder) -> Vec<u8> {
 /// A few commands at random, 01 mostly first, half of them in order, most of them whole; or bytes at random.
 fn babble(random: &mut Random) -> Vec<u8> {
     if random.word() % 16 == 0 {
-        return (0..random.word() % 64).map(|_| random.word() as u8 % [3, 10, 255][below(random, 3)]).collect();
+        return (0..random.word() % 64).map(|_| random.word() as u8 % [3, UNKNOWN, 255][below(random, 3)]).collect();
     }
     let mut batch = Builder::default();
     if random.word() % 8 != 0 {
         batch.rows(random.word() as u32 % 35);
     }
     for _ in 0..random.word() % 8 {
-        let command = random.word() as u8 % [11, 11, 11, 255][below(random, 4)];
-        let mut operand = words(random, [0, 0, MAIN_WIDTH, 1, 1, 1, 177, 5, 1, 1].get(command as usize).copied().unwrap_or(0));
+        let command = random.word() as u8 % [UNKNOWN + 1, UNKNOWN + 1, UNKNOWN + 1, 255][below(random, 4)];
+        let widths = [0, 0, MAIN_WIDTH, 1, 1, 1, 177, 5, 1, 1, MAIN_WIDTH];
+        let mut operand = words(random, widths.get(command as usize).copied().unwrap_or(0));
         if !operand.is_empty() && random.word() % 16 == 0 {
             let place = below(random, operand.len());
             operand[place] = bad(random);
@@ -472,18 +548,15 @@ fn babble(random: &mut Random) -> Vec<u8> {
     bytes
 }
 
-/// Whole batches; then batches with a fault in every place, and `count` damaged at random.
+/// Whole batches; then batches of each form with a fault in every place, and `count` damaged at random.
 pub fn compare(random: &mut Random, count: u64) -> bool {
-    let mut whole = Opening::new("open", random);
-    sound(&mut whole, count / 40);
-    let right = whole.tally.report() & whole.again.report();
-    let mut opening = Opening::new("open, damaged", random);
-    every_byte(&mut opening);
-    bad_words(&mut opening);
-    rows(&mut opening);
-    past_counts(&mut opening);
-    orders(&mut opening);
-    ends(&mut opening);
+    let mut opening = Opening::new(random);
+    sound(&mut opening, count / 40);
+    for form in FORMS {
+        for faults in [lengths, every_byte, bad_words, edge_words, mixtures, rows, past_counts, orders, ends] {
+            faults(&mut opening, form);
+        }
+    }
     for _ in 0..count / 12 {
         let batch = random_whole(opening.random);
         for _ in 0..8 {
@@ -495,6 +568,10 @@ pub fn compare(random: &mut Random, count: u64) -> bool {
             opening.check("babble", &bytes);
         }
     }
-    opening.tally.reached(&[0, 1, 2, 3, 7, 8, 9, 10]);
-    opening.tally.report() & opening.again.report() & right
+    let numbers: [&[usize]; 4] = [&[1, 2, 3, 7, 8, 9, 10], &[0, 2, 7, 8, 9, 10], &[0, 2, 7, 8, 9, 10], &[9]];
+    for (tally, numbers) in opening.tallies.iter_mut().zip(numbers) {
+        tally.reached(numbers);
+    }
+    opening.again.iter_mut().for_each(|tally| tally.reached(&[0]));
+    opening.tallies.iter().chain(&opening.again).fold(true, |right, tally| tally.report() & right)
 }

@@ -7,6 +7,7 @@ mod batches;
 mod decoding;
 mod derived;
 mod extension;
+mod montgomery;
 mod scans;
 mod tables;
 mod writing;
@@ -21,6 +22,7 @@ fn main() {
     println!("compare: seed {seed}, count {count}");
     let right = [
         arithmetic::compare(&mut random, count),
+        montgomery::compare(&mut random, count),
         decoding::compare(&mut random, count),
         derived::compare(&mut random, count / 100),
         scans::compare(&mut random, count / 300),

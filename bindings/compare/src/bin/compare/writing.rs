@@ -4,7 +4,7 @@ use compare::plain::batch::{self, LENGTHS};
 use compare::random::Random;
 use compare::tally::Tally;
 use tealbobbin::abi;
-use tealbobbin::batch::{MAX_DIFFERENCES, MAX_IO_WORDS, MAX_TRACE_ROWS};
+use tealbobbin::batch::{Form, MAX_DIFFERENCES, MAX_IO_WORDS, MAX_TRACE_ROWS};
 use tealbobbin::field::P;
 use tealbobbin::processor::MAIN_WIDTH;
 
@@ -17,7 +17,9 @@ type Contents = [Vec<u64>; 8];
 const LISTS: [(usize, usize); 5] =
     [(1, MAX_DIFFERENCES), (2, MAX_DIFFERENCES), (3, MAX_DIFFERENCES), (6, MAX_IO_WORDS), (7, MAX_IO_WORDS)];
 
+/// In one form.
 struct Writing<'a> {
+    form: Form,
     tally: Tally,
     opened: Tally,
     again: Tally,
@@ -38,14 +40,23 @@ fn shape(contents: &Contents, length: usize) -> Vec<u64> {
 }
 
 impl Writing<'_> {
+    /// A word that says the form: 0 says plain, any other Montgomery.
+    fn form_word(&mut self) -> u64 {
+        let others = [1, 2, 10, 255, 256, 1 << 32, 1 << 63, u64::MAX, self.random.word().max(1)];
+        match self.form {
+            Form::Plain => 0,
+            Form::Montgomery => others[below(self.random, others.len())],
+        }
+    }
+
     /// The number and every byte of a slice of this length, and those after it; answers the number that was expected, and what was
     /// written.
     fn check(&mut self, what: &str, contents: &Contents, length: usize) -> (u32, Vec<u8>) {
         let mark = self.random.word().to_le_bytes();
         let before: Vec<u8> = mark.into_iter().cycle().take(length + 16).collect();
         let (mut ours, mut expected) = (before.clone(), before.clone());
-        let number = batch::write(slices(contents), &mut expected[..length]);
-        let got = abi::write(slices(contents), &mut ours[..length]);
+        let number = batch::write(slices(contents), self.form, &mut expected[..length]);
+        let got = abi::write(slices(contents), self.form_word(), &mut ours[..length]);
         self.tally.check(what, &shape(contents, length), &before, (got, &ours), number, &expected);
         ours.truncate(length);
         (number, ours)
@@ -82,7 +93,7 @@ impl Writing<'_> {
         let opened: [&[u64]; 8] = std::array::from_fn(|slice| &opened[slice][..contents[slice].len()]);
         let before = vec![0xa5; written.len()];
         let mut again = before.clone();
-        let got = abi::write(opened, &mut again);
+        let got = abi::write(opened, self.form_word(), &mut again);
         self.again.check(what, &shape, &before, (got, &again), 0, &written);
     }
 }
@@ -228,10 +239,22 @@ fn faulty(random: &mut Random) -> (Contents, usize) {
     (contents, if random.word() % 8 == 0 { other } else { length })
 }
 
-/// Contents that are written, and written again once they are opened; then contents with every fault, and `count` at random.
+const NAMES: [(Form, [&str; 3]); 2] = [
+    (Form::Plain, ["write, plain rows", "open, what was written, plain rows", "write, that again, plain rows"]),
+    (
+        Form::Montgomery,
+        ["write, rows in Montgomery form", "open, what was written, rows in Montgomery form", "write, that again, rows in Montgomery form"],
+    ),
+];
+
+/// In each form contents that are written, and written again once they are opened; then contents with every fault; `count` at random.
 pub fn compare(random: &mut Random, count: u64) -> bool {
-    let (tally, opened, again) = (Tally::new("write"), Tally::new("open, what was written"), Tally::new("write, what opened"));
-    let mut writing = Writing { tally, opened, again, random };
+    NAMES.into_iter().fold(true, |right, (form, names)| compare_form(random, count / 2, form, names) & right)
+}
+
+fn compare_form(random: &mut Random, count: u64, form: Form, names: [&'static str; 3]) -> bool {
+    let [tally, opened, again] = names.map(Tally::new);
+    let mut writing = Writing { form, tally, opened, again, random };
     sound(&mut writing, count);
     lengths(&mut writing);
     bad_words(&mut writing);

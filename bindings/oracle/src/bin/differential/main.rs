@@ -6,6 +6,7 @@ mod claims;
 mod constraints;
 mod decoding;
 mod extension;
+mod montgomery;
 mod scans;
 mod tables;
 mod values;
@@ -31,6 +32,7 @@ fn main() {
         tables::compare(&mut random, count, &mut rows),
         extension::compare(&mut random, count, &mut rows),
         constraints::compare(&mut random),
+        montgomery::compare(&mut random, count),
     ];
     println!("{rows} rows of tables compared in all");
     std::process::exit(if right.iter().all(|&r| r) { 0 } else { 1 });

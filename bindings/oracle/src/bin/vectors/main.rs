@@ -11,6 +11,7 @@ use compare::plain::extension::AUX_WIDTH;
 use compare::random::Random;
 use oracle::MAIN_WIDTH;
 use runs::Case;
+use tealbobbin::batch::Form;
 
 /// The number and the last row's words: 4 where the original's fill panics, 6 where its extension does.
 fn answer(case: &Case) -> (u8, Vec<u64>) {
@@ -30,7 +31,7 @@ fn batch(case: &Case) -> Vec<u8> {
     let [op_stack, ram, jump_stack] = &case.differences;
     let contents = [case.trace.as_flattened(), op_stack, ram, jump_stack, &case.sampled, &case.digest, &case.input, &case.output];
     let mut bytes = vec![0; batch::length(&contents)];
-    assert_eq!(batch::write(contents, &mut bytes), 0, "{}", case.name);
+    assert_eq!(batch::write(contents, Form::Plain, &mut bytes), 0, "{}", case.name);
     bytes
 }
 

@@ -25,26 +25,29 @@ returns c = rw (eq-eqb _ 0 (c .before .if1 .taken), ne-eqb _ 1 (c .if2 .taken))
 limit-requires : tie.Need-limit-requires
 limit-requires c κs = search needs
 
-mul-if3 : tie.Need-mul-if3
-mul-if3 c = search needs
-
-array-read-if3 : tie.Need-array-read-if3
-array-read-if3 c = search needs
+count-requires : tie.Need-count-requires
+count-requires c κs = search needs
 
 returns-2 : tie.Need-returns-2
-returns-2 c = rw (in-first (c .before .before), ← (c .before .limit .ensures), le-leb _ _ (c .if3 .taken))
+returns-2 c = rw (in-first (c .before .before .before), ← (c .before .before .limit .ensures), ← (c .before .count .ensures), le-leb _ _ (c .if3 .taken))
+
+mixed-requires : tie.Need-mixed-requires
+mixed-requires c κs = search needs
 
 returns-3 : tie.Need-returns-3
-returns-3 c = let over = c .before in rw (in-first (over .before .before), ← (over .before .limit .ensures), lt-leb _ _ (over .if3 .left), ne-eqb _ 0 (c .if4 .taken))
+returns-3 c = let over = c .before .before in rw (in-first (over .before .before .before), ← (over .before .before .limit .ensures), ← (over .before .count .ensures), lt-leb _ _ (over .if3 .left), ← (c .before .mixed .ensures), c .if4 .taken)
+
+returns-4 : tie.Need-returns-4
+returns-4 c = let one = c .before in let over = one .before .before in rw (in-first (over .before .before .before), ← (over .before .before .limit .ensures), ← (over .before .count .ensures), lt-leb _ _ (over .if3 .left), ← (one .before .mixed .ensures), one .if4 .left, ne-eqb _ 0 (c .if5 .taken))
 
 missing-requires : tie.Need-missing-requires
 missing-requires c κs = search needs
 
-returns-4 : tie.Need-returns-4
-returns-4 c = let over = c .before .before .before in rw (in-first (over .before .before), ← (over .before .limit .ensures), lt-leb _ _ (over .if3 .left), eq-eqb _ 0 (c .before .before .if4 .left), ← (c .before .missing .ensures), c .if5 .taken)
-
 returns-5 : tie.Need-returns-5
-returns-5 c = let over = c .before .before .before in rw (in-first (over .before .before), ← (over .before .limit .ensures), lt-leb _ _ (over .if3 .left), eq-eqb _ 0 (c .before .before .if4 .left), ← (c .before .missing .ensures), c .if5 .left)
+returns-5 c = let last = c .before .before in let one = last .before in let over = one .before .before in rw (in-first (over .before .before .before), ← (over .before .before .limit .ensures), ← (over .before .count .ensures), lt-leb _ _ (over .if3 .left), ← (one .before .mixed .ensures), one .if4 .left, eq-eqb _ 0 (last .if5 .left), ← (c .before .missing .ensures), c .if6 .taken)
+
+returns-6 : tie.Need-returns-6
+returns-6 c = let last = c .before .before in let one = last .before in let over = one .before .before in rw (in-first (over .before .before .before), ← (over .before .before .limit .ensures), ← (over .before .count .ensures), lt-leb _ _ (over .if3 .left), ← (one .before .mixed .ensures), one .if4 .left, eq-eqb _ 0 (last .if5 .left), ← (c .before .missing .ensures), c .if6 .left)
 
 pub out-of-place-spec : {M : Type 1} → statement M
 out-of-place-spec =
@@ -53,10 +56,11 @@ out-of-place-spec =
     array-read-if1
     returns
     limit-requires
-    mul-if3
-    array-read-if3
+    count-requires
     returns-2
+    mixed-requires
     returns-3
-    missing-requires
     returns-4
-    returns-5)
+    missing-requires
+    returns-5
+    returns-6)

@@ -1,4 +1,4 @@
--- An arm for each command; the last is for 09.
+-- An arm for each command; the last is for 0A.
 use Rattle.batch_commands.specs.Format.{rank}
 use Rattle.batch_commands.proofs.Tables.{arm, last}
 use Rattle.batch_commands.proofs.unchecked.rank.Statement.{statement}
@@ -17,4 +17,5 @@ rank-spec =
     (λ c. arm rank (c .match .keys7))
     (λ c. arm rank (c .match .keys8))
     (λ c. arm rank (c .match .keys9))
+    (λ c. arm rank (c .match .keys10))
     (λ c. arm rank (last _ (c .before .pre) (c .match .rest))))

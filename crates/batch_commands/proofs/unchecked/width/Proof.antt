@@ -1,4 +1,4 @@
--- An arm for each command; the last is for 09.
+-- An arm for each command; the last is for 0A.
 use Rattle.batch_commands.specs.Format.{width}
 use Rattle.batch_commands.proofs.Tables.{arm, last}
 use Rattle.batch_commands.proofs.unchecked.width.Statement.{statement}
@@ -17,4 +17,5 @@ width-spec =
     (λ c. arm width (c .match .keys7))
     (λ c. arm width (c .match .keys8))
     (λ c. arm width (c .match .keys9))
+    (λ c. arm width (c .match .keys10))
     (λ c. arm width (last _ (c .before .pre) (c .match .rest))))

@@ -10,10 +10,10 @@ use Rattle.batch_reader.proofs.unchecked.put_section.Statement.{stateme
 use Rattle.batch_reader.proofs.unchecked.put_section.Tie as tie
 
 abbrev Inv-loop : tie.InvT-loop
-Inv-loop batch at wanted slice₀ width n to₀ place₀ slice to place = Section batch wanted slice₀ slice to place
+Inv-loop batch at wanted form slice₀ width n to₀ place₀ slice to place = Section batch wanted form slice₀ slice to place
 
 abbrev μ-loop : tie.MeasureT-loop
-μ-loop batch at wanted slice₀ width n to₀ place₀ slice to place = length batch - place
+μ-loop batch at wanted form slice₀ width n to₀ place₀ slice to place = length batch - place
 
 abbrev start : tie.At-loop Inv-loop μ-loop → tie.Start Inv-loop μ-loop
 start c = c .before .before .before .before
@@ -28,13 +28,13 @@ inside : (c : tie.Else1 Inv-loop μ-loop) → let at-loop = turn c in at-loop .l
 inside c =
     let at-loop = turn c in
     let s = start at-loop in
-    fits (s .args .batch .now) (s .args .wanted) (s .pre .0) (s .pre .1 .0 .0) (s .pre .1 .0 .1) (s .args .slice .now) (at-loop .loop .slice) (at-loop .loop .to) (at-loop .loop .place) (at-loop .loop .inv) (c .if1 .left)
+    fits (s .args .batch .now) (s .args .wanted) (s .pre .0) (s .pre .1 .0 .0) (s .pre .1 .0 .1) (s .args .form) (s .args .slice .now) (at-loop .loop .slice) (at-loop .loop .to) (at-loop .loop .place) (at-loop .loop .inv) (c .if1 .left)
 
 spare : (c : tie.Else1 Inv-loop μ-loop) → let at-loop = turn c in at-loop .loop .to + at-loop .before .width .result / 8 ≤ length (at-loop .loop .slice)
 spare c =
     let at-loop = turn c in
     let s = start at-loop in
-    let h = room (s .args .batch .now) (s .args .wanted) (s .pre .0) (s .pre .1 .0 .0) (s .pre .1 .0 .1) (s .args .slice .now) (at-loop .loop .slice) (at-loop .loop .to) (at-loop .loop .place) (at-loop .loop .inv) (c .if1 .left) (s .pre .1 .1) in
+    let h = room (s .args .batch .now) (s .args .wanted) (s .pre .0) (s .pre .1 .0 .0) (s .pre .1 .0 .1) (s .args .form) (s .args .slice .now) (at-loop .loop .slice) (at-loop .loop .to) (at-loop .loop .place) (at-loop .loop .inv) (c .if1 .left) (s .pre .1 .1 .1) in
     omega (arith, wide at-loop)
 
 width-requires : tie.Need-width-requires Inv-loop μ-loop
@@ -43,7 +43,7 @@ width-requires c κs = c .before .before .pre .1 .0 .1
 loop-holds : tie.Need-loop-holds Inv-loop μ-loop
 loop-holds c =
     let s = c .before .before .before in
-    begins (s .args .batch .now) (s .args .wanted) (s .pre .0) (s .pre .1 .0 .0) (s .pre .1 .0 .1) (s .args .slice .now) (s .args .at) (s .pre .1 .0 .2)
+    begins (s .args .batch .now) (s .args .wanted) (s .pre .0) (s .pre .1 .0 .0) (s .pre .1 .0 .1) (s .args .form) (s .args .slice .now) (s .args .at) (s .pre .1 .1 .0)
 
 shared-slice-read-if1 : tie.Need-shared-slice-read-if1 Inv-loop μ-loop
 shared-slice-read-if1 c = search needs
@@ -58,7 +58,7 @@ returns : tie.Need-returns Inv-loop μ-loop
 returns c =
     let at-loop = c .before .before .before in
     let s = start at-loop in
-    ends (s .args .batch .now) (s .args .wanted) (s .pre .0) (s .pre .1 .0 .0) (s .pre .1 .0 .1) (s .args .slice .now) (at-loop .loop .slice) (at-loop .loop .to) (at-loop .loop .place) (at-loop .loop .inv) (c .if1 .taken)
+    ends (s .args .batch .now) (s .args .wanted) (s .pre .0) (s .pre .1 .0 .0) (s .pre .1 .0 .1) (s .args .form) (s .args .slice .now) (at-loop .loop .slice) (at-loop .loop .to) (at-loop .loop .place) (at-loop .loop .inv) (s .pre .1 .0 .2) (c .if1 .taken)
 
 add-put-words : tie.Need-add-put-words Inv-loop μ-loop
 add-put-words c = let h = inside c in omega arith
@@ -84,7 +84,7 @@ loop-again c =
     let here = put .before .before in
     let at-loop = turn here in
     let s = start at-loop in
-    rw (wide at-loop) (goes-on (s .args .batch .now) (s .args .wanted) (s .pre .0) (s .pre .1 .0 .0) (s .pre .1 .0 .1) (s .args .slice .now) (at-loop .loop .slice) (at-loop .loop .to) (at-loop .loop .place) (at-loop .loop .inv) (here .if1 .left) _ (put .put-words .kept .1 .1 .1 .0) (rw (wide at-loop) at (put .put-words .ensures)))
+    rw (wide at-loop) (goes-on (s .args .batch .now) (s .args .wanted) (s .pre .0) (s .pre .1 .0 .0) (s .pre .1 .0 .1) (s .args .form) (s .args .slice .now) (at-loop .loop .slice) (at-loop .loop .to) (at-loop .loop .place) (at-loop .loop .inv) (here .if1 .left) _ (put .put-words .kept .1 .1 .1 .1 .0) (rw (wide at-loop) at (put .put-words .ensures)))
 
 same-length-2 : tie.Need-same-length-2 Inv-loop μ-loop
 same-length-2 c = c .before .loop .inv .same-length
@@ -93,7 +93,7 @@ returns-2 : tie.Need-returns-2 Inv-loop μ-loop
 returns-2 c =
     let at-loop = c .before in
     let s = start at-loop in
-    absurd (not-at-end (s .args .batch .now) (s .args .wanted) (s .pre .0) (s .pre .1 .0 .0) (s .pre .1 .0 .1) (s .args .slice .now) (at-loop .loop .slice) (at-loop .loop .to) (at-loop .loop .place) (at-loop .loop .inv) (c .loop-test .left))
+    absurd (not-at-end (s .args .batch .now) (s .args .wanted) (s .pre .0) (s .pre .1 .0 .0) (s .pre .1 .0 .1) (s .args .form) (s .args .slice .now) (at-loop .loop .slice) (at-loop .loop .to) (at-loop .loop .place) (at-loop .loop .inv) (c .loop-test .left))
 
 pub put-section-spec : {M : Type 1} → statement M
 put-section-spec =

@@ -1,10 +1,12 @@
 -- The bytes of the first i words are in the batch, which is as it was elsewhere.
 use borrow.Author.Needs.{needs}
-use mathlib.Core.Path.{_≡_, refl, ap, _∙_}
+use mathlib.Core.Path.{_≡_, refl, sym, ap₂, _∙_}
 use Prim.Native.Nat.{_+_, _-_, _*_, _≤_}
 use native.Mathlib.Omega.{arith}
 use lib.ListN.{length, take, getD}
 use lib.Seq.{take-all}
+use Rattle.field_montgomery.specs.Form.{inForm}
+use Rattle.field_montgomery.proofs.Many.{in-form-at, length-in-form}
 use Rattle.batch_words.specs.Words.{littleEndian, bytesOf}
 use Rattle.batch_words.specs.Pasted.{pasted}
 use Rattle.batch_words.proofs.Writing.{word-on}
@@ -13,10 +15,10 @@ use Rattle.batch_words.proofs.unchecked.write_words.Statement.{statemen
 use Rattle.batch_words.proofs.unchecked.write_words.Tie as tie
 
 abbrev Inv-loop : tie.InvT-loop
-Inv-loop words batch₀ at i₀ batch i = (i ≤ length words) × (length batch ≡ length batch₀) × (batch ≡ pasted batch₀ at (bytesOf (take i words)))
+Inv-loop words form batch₀ at i₀ batch i = (i ≤ length words) × (length batch ≡ length batch₀) × (batch ≡ pasted batch₀ at (bytesOf (take i (inForm form words))))
 
 abbrev μ-loop : tie.MeasureT-loop
-μ-loop words batch₀ at i₀ batch i = length words - i
+μ-loop words form batch₀ at i₀ batch i = length words - i
 
 loop-holds : tie.Need-loop-holds Inv-loop μ-loop
 unfolding bytesOf
@@ -28,11 +30,14 @@ mul-write-word c = search needs
 add-write-word : tie.Need-add-write-word Inv-loop μ-loop
 add-write-word c = search needs
 
-mul-write-word-2 : tie.Need-mul-write-word-2 Inv-loop μ-loop
-mul-write-word-2 c = search needs
+mul-word-in : tie.Need-mul-word-in Inv-loop μ-loop
+mul-word-in c = search needs
 
-shared-slice-read-write-word : tie.Need-shared-slice-read-write-word Inv-loop μ-loop
-shared-slice-read-write-word c = search needs
+shared-slice-read-word-in : tie.Need-shared-slice-read-word-in Inv-loop μ-loop
+shared-slice-read-word-in c = search needs
+
+word-in-requires : tie.Need-word-in-requires Inv-loop μ-loop
+word-in-requires c κs = search needs
 
 write-word-requires : tie.Need-write-word-requires Inv-loop μ-loop
 write-word-requires c κs = search needs
@@ -45,13 +50,17 @@ loop-less c = search needs
 
 loop-again : tie.Need-loop-again Inv-loop μ-loop
 loop-again c =
-    let at-loop = c .before .before .before .before .before .before in
+    let made = c .before .before .before in
+    let at-loop = made .before .before .before .before in
     let args = at-loop .before .before .before .args in
     let i = at-loop .loop .i in
+    let ws = inForm (args .form) (args .words .now) in
+    let long = length-in-form (args .form) (args .words .now) in
+    let word : made .word-in .result ≡ getD ws i 0 = made .word-in .ensures ∙ sym (in-form-at (args .form) (args .words .now) i) in
     let wrote = c .before .before .write-word in (
       search needs,
       wrote .kept .0 ∙ at-loop .loop .inv .1,
-      wrote .ensures ∙ ap (λ l. pasted l (args .at + 8 * i) (littleEndian 8 (getD (args .words .now) i 0))) (at-loop .loop .inv .2) ∙ word-on (args .batch .now) (args .at) (args .words .now) i (omega arith) (omega arith),
+      wrote .ensures ∙ ap₂ (λ l w. pasted l (args .at + 8 * i) (littleEndian 8 w)) (at-loop .loop .inv .2) word ∙ word-on (args .batch .now) (args .at) ws i (omega arith) (omega arith),
     )
 
 same-length : tie.Need-same-length Inv-loop μ-loop
@@ -60,7 +69,8 @@ same-length c = search needs
 returns : tie.Need-returns Inv-loop μ-loop
 returns c =
     let args = c .before .before .before .before .args in
-    c .before .loop .inv .2 ∙ rw (take-all (c .before .loop .i) (args .words .now) (c .loop-test .left))
+    let ws = inForm (args .form) (args .words .now) in
+    c .before .loop .inv .2 ∙ rw (take-all (c .before .loop .i) ws (omega (arith, length-in-form (args .form) (args .words .now), c .loop-test .left)))
 
 pub write-words-spec : {M : Type 1} → statement M
 write-words-spec =
@@ -71,8 +81,9 @@ write-words-spec =
     loop-holds
     mul-write-word
     add-write-word
-    mul-write-word-2
-    shared-slice-read-write-word
+    mul-word-in
+    shared-slice-read-word-in
+    word-in-requires
     write-word-requires
     add-i
     loop-less

@@ -37,7 +37,7 @@ use denote.Triple.Statement.{Contract, Triple}
 use denote.Triple.Table.{entered, cited}
 use denote.Triple.Walked.{says, needs, Stays, stay-none, walkOf, goes-none, Walks, ends-at, walked, walk-meets}
 use denote.Exit.{yes}
-use Rattle.batch_commands.specs.Format.{width}
+use Rattle.batch_commands.specs.Format.{COMMANDS, width}
 use Rattle.batch_reader.specs.declared.opener.Opener.{Opener}
 use Rattle.batch_reader.proofs.Calling.{Callee, gets}
 use Rattle.batch_reader.proofs.opener.Opener as T
@@ -68,7 +68,7 @@ module _ {M : Type 1} (𝓤 : URA M) (H : Heap 𝓤) (A : Atoms 𝓤) (mem : Mem
 
 -- the command at d's place is whole
 abbrev Whole : Opener → ℕ → Type 0
-Whole d k = (k < 10) × (d .at + 1 + width k ≤ length (now (d .batch)))
+Whole d k = (k < COMMANDS) × (d .at + 1 + width k ≤ length (now (d .batch)))
 
 module _ {M : Type 1} (𝓤 : URA M) (H : Heap 𝓤) (A : Atoms 𝓤) (W : Given 𝓤 H A) (mem : Memory → SProp 𝓤) (run : Routine → Fun 𝓤) (κ : Lft) (q : Share) (d : Opener) (k : ℕ) (k-fits : k < 2 ^ 64) where
   abbrev mach : Val
@@ -98,7 +98,7 @@ module _ {M : Type 1} (𝓤 : URA M) (H : Heap 𝓤) (A : Atoms 𝓤) (W : Given
   abbrev to : PlacePast 𝓤 H A mem run .Ghost
   to = ((tt, tt, tt, (d .at, (k, tt)), (vint w64 (d .at) ∷ [], (vint w64 k ∷ [], tt))), tt)
 
-  asks : d .at < 2 ^ 64 → (k < 10) × (d′ .at < 2 ^ 64) → ent 𝓤 (emp 𝓤) (PlacePast 𝓤 H A mem run .pre to)
+  asks : d .at < 2 ^ 64 → (k < COMMANDS) × (d′ .at < 2 ^ 64) → ent 𝓤 (emp 𝓤) (PlacePast 𝓤 H A mem run .pre to)
   asks at-fits whole =
       qed W [] ∵ says ! whole $ nothing ! $ frame ! $ nothing ! $ owned ! usize (Is usize) (uint-makes 𝓤 H A W w64) k _ (refl, k-fits) $ fjoin ! $
       owned ! usize (Is usize) (uint-makes 𝓤 H A W w64) (d .at) _ (refl, at-fits) $ fjoin ! $ done !

@@ -1,0 +1,4 @@
+-- Base elements in Montgomery form.
+pub mod Form
+pub mod Answers
+pub mod Theorems

@@ -1,0 +1,26 @@
+-- What `put_base` does with the answer.
+use borrow.Author.Needs.{needs}
+use mathlib.Core.Path.{ap, _∙_}
+use Rattle.tealbobbin_answers.specs.Field.{baseNumberInto, baseInto}
+use Rattle.tealbobbin.proofs.tealbobbin_from_montgomery.Statement.{statement}
+use Rattle.tealbobbin.proofs.tealbobbin_from_montgomery.Tie as tie
+
+from-montgomery-requires : tie.Need-from-montgomery-requires
+from-montgomery-requires c κs = search needs
+
+put-base-requires : tie.Need-put-base-requires
+put-base-requires c κs = search needs
+
+same-length : tie.Need-same-length
+same-length c = search needs
+
+returns : tie.Need-returns
+returns c =
+    let put = c .before .before .put-base .ensures in
+    let answer = c .before .before .before .before .from-montgomery .ensures in
+    let out = c .before .before .before .before .before .before .args .out .now in
+    (put .0 ∙ ap (baseNumberInto out) answer, put .1 ∙ ap (baseInto out) answer)
+
+pub tealbobbin-from-montgomery-spec : {M : Type 1} → statement M
+tealbobbin-from-montgomery-spec =
+    tie.close (tie.spec from-montgomery-requires put-base-requires same-length returns)

@@ -1,0 +1,26 @@
+-- What `put_base` does with the answer.
+use borrow.Author.Needs.{needs}
+use mathlib.Core.Path.{ap, _∙_}
+use Rattle.tealbobbin_answers.specs.Field.{baseNumberInto, baseInto}
+use Rattle.tealbobbin.proofs.tealbobbin_montgomery_mul.Statement.{statement}
+use Rattle.tealbobbin.proofs.tealbobbin_montgomery_mul.Tie as tie
+
+mul-requires : tie.Need-mul-requires
+mul-requires c κs = search needs
+
+put-base-requires : tie.Need-put-base-requires
+put-base-requires c κs = search needs
+
+same-length : tie.Need-same-length
+same-length c = search needs
+
+returns : tie.Need-returns
+returns c =
+    let put = c .before .before .put-base .ensures in
+    let answer = c .before .before .before .before .mul .ensures in
+    let out = c .before .before .before .before .before .before .args .out .now in
+    (put .0 ∙ ap (baseNumberInto out) answer, put .1 ∙ ap (baseInto out) answer)
+
+pub tealbobbin-montgomery-mul-spec : {M : Type 1} → statement M
+tealbobbin-montgomery-mul-spec =
+    tie.close (tie.spec mul-requires put-base-requires same-length returns)
