@@ -1,5 +1,5 @@
 -- The rows of a batch that is read have one form.
-use mathlib.Core.Path.{_≡_, refl, sym, ap, _∙_}
+use mathlib.Core.Path.{_≡_, refl, sym, _∙_}
 use mathlib.Core.Bool.{Bool, true, false, cond, _&&_}
 use mathlib.Core.Logic.{_⊎_, inl, inr}
 use mathlib.Core.List.{List, [], _∷_, _++_}
@@ -8,12 +8,11 @@ use native.Mathlib.Omega.{arith}
 use lib.Dec.{eqb}
 use lib.ListN.{take}
 use borrow.Author.Tests.{eqb-true, eqb-false, eq-eqb, ne-eqb, not-false}
-use Rattle.refusal.specs.declared.Answer.the-variants.{Done}
 use Rattle.field_montgomery.specs.declared.Form.{Form}
 use Rattle.field_montgomery.specs.declared.Form.the-variants.{Plain, Montgomery}
 use Rattle.batch_commands.specs.Format.{ROW, MONTGOMERY-ROW, width, Command}
 use Rattle.batch_commands.specs.Form.{rowCommand, otherForm, OfForm}
-use Rattle.batch_commands.specs.Fault.{rowsIn, mixed, fault}
+use Rattle.batch_commands.specs.Fault.{rowsIn, mixed}
 use Rattle.batch_commands.proofs.Tables.{row-known}
 use Rattle.batch_reader.specs.Commands.{count, counts, formOf, seenIn}
 use Rattle.batch_reader.specs.Reading.{read, reading}

@@ -62,82 +62,33 @@ const COSTLY: [(u64, u64); 4] = [(34, 1), (56, 1), (48, 1), (44, 1)];
 type OfOne = fn(u64, &mut [u64]) -> u32;
 type OfTwo = fn(u64, u64, &mut [u64]) -> u32;
 
-#[inline(never)]
-fn plain_base_mul(a: u64, b: u64, out: &mut [u64]) -> u32 {
-    if out.len() != 1 {
-        return 1;
-    }
-    if a >= P || b >= P {
-        return 2;
-    }
-    out[0] = plain::mul(a, b);
-    0
+/// Plain Rust behind the tests that the library makes: 1 for another length, 2 for a word, and 6 where an inverse has none.
+macro_rules! tested {
+    ($($name:ident($a:ident $(, $b:ident)?) = $value:expr $(, 6 at $zero:literal)?;)*) => { $(
+        #[inline(never)]
+        fn $name($a: u64, $($b: u64,)? out: &mut [u64]) -> u32 {
+            if out.len() != 1 {
+                return 1;
+            }
+            if $a >= P $(|| $b >= P)? {
+                return 2;
+            }
+            $(if $a == $zero {
+                return 6;
+            })?
+            out[0] = $value;
+            0
+        }
+    )* };
 }
 
-#[inline(never)]
-fn plain_montgomery_mul(a: u64, b: u64, out: &mut [u64]) -> u32 {
-    if out.len() != 1 {
-        return 1;
-    }
-    if a >= P || b >= P {
-        return 2;
-    }
-    out[0] = plain::montgomery_mul(a, b);
-    0
-}
-
-#[inline(never)]
-fn plain_to_montgomery(a: u64, out: &mut [u64]) -> u32 {
-    if out.len() != 1 {
-        return 1;
-    }
-    if a >= P {
-        return 2;
-    }
-    out[0] = plain::to_montgomery(a);
-    0
-}
-
-#[inline(never)]
-fn plain_from_montgomery(a: u64, out: &mut [u64]) -> u32 {
-    if out.len() != 1 {
-        return 1;
-    }
-    if a >= P {
-        return 2;
-    }
-    out[0] = plain::montgomery_mul(a, 1);
-    0
-}
-
-#[inline(never)]
-fn plain_montgomery_inverse(a: u64, out: &mut [u64]) -> u32 {
-    if out.len() != 1 {
-        return 1;
-    }
-    if a >= P {
-        return 2;
-    }
-    if a == 0 {
-        return 6;
-    }
-    out[0] = plain::montgomery_inverse(a);
-    0
-}
-
-#[inline(never)]
-fn plain_base_inverse(a: u64, out: &mut [u64]) -> u32 {
-    if out.len() != 1 {
-        return 1;
-    }
-    if a >= P {
-        return 2;
-    }
-    if a == 0 {
-        return 6;
-    }
-    out[0] = plain::inverse(a);
-    0
+tested! {
+    plain_base_mul(a, b) = plain::mul(a, b);
+    plain_base_inverse(a) = plain::inverse(a), 6 at 0;
+    plain_to_montgomery(a) = plain::to_montgomery(a);
+    plain_from_montgomery(a) = plain::montgomery_mul(a, 1);
+    plain_montgomery_mul(a, b) = plain::montgomery_mul(a, b);
+    plain_montgomery_inverse(a) = plain::montgomery_inverse(a), 6 at 0;
 }
 
 fn element(words: &[u64]) -> Result<Element, u32> {
