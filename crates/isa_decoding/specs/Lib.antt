@@ -1,4 +1,5 @@
 -- The decoding of a row.
 pub mod Decode
+pub mod Byte
 pub mod Answer
 pub mod Theorems

@@ -4,8 +4,9 @@ use air::unchecked::word_at;
 use isa::Instruction;
 use refusal::Refusal;
 ghost use mathlib.Core.Path.{_≡_};
-ghost use Rattle.isa.specs.Instruction.{stackElement, numberOfWords};
-ghost use Rattle.isa_decoding.specs.Decode.{checked, decoded};
+ghost use Rattle.isa.specs.Instruction.{stackElement, numberOfWords, allowed};
+ghost use Rattle.isa_decoding.specs.Decode.{decoded};
+ghost use Rattle.isa_decoding.specs.Byte.{kindAt, decidedOn, candidate};
 ghost use Rattle.isa_decoding.specs.Answer.{decodeAnswer};
 
 // What the words CI and NIA stand for.
@@ -31,28 +32,108 @@ pub enum DecodeAnswer {
     Row(Decoded),
 }
 
-// The instruction, if its argument is a stack element.
-fn stack_element(argument: u64, i: Instruction) -> Decoded
-    ensures { λ r. ⌜ r ≡ checked (stackElement argument) i ⌝ }
+// The test that an argument must pass, by its place in `fits`. A byte that is no opcode has one that nothing passes.
+const ANY: u8 = 0;
+
+const STACK_ELEMENT: u8 = 1;
+
+const NUMBER_OF_WORDS: u8 = 2;
+
+const NO_OPCODE: u8 = 3;
+
+// The test that the argument must pass, and the instruction if it does.
+struct Candidate(u8, Instruction);
+
+fn candidate_of(opcode: u8, argument: u64) -> Candidate
+    ensures { λ r. ⌜ r ≡ candidate (kindAt opcode) argument ⌝ }
 {
-    if argument <= 15 {
-        Decoded::Read(i)
-    } else {
-        Decoded::Outside(Class::StackElement, i)
+    match opcode {
+        0 => Candidate(ANY, Instruction::Halt),
+        1 => Candidate(ANY, Instruction::Push(argument)),
+        2 => Candidate(ANY, Instruction::Skiz),
+        3 => Candidate(NUMBER_OF_WORDS, Instruction::Pop(argument)),
+        4 => Candidate(ANY, Instruction::Split),
+        6 => Candidate(ANY, Instruction::Lt),
+        8 => Candidate(ANY, Instruction::Nop),
+        9 => Candidate(NUMBER_OF_WORDS, Instruction::Divine(argument)),
+        10 => Candidate(ANY, Instruction::Assert),
+        11 => Candidate(NUMBER_OF_WORDS, Instruction::WriteMem(argument)),
+        12 => Candidate(ANY, Instruction::Log2Floor),
+        14 => Candidate(ANY, Instruction::And),
+        16 => Candidate(ANY, Instruction::Return),
+        17 => Candidate(STACK_ELEMENT, Instruction::Pick(argument)),
+        18 => Candidate(ANY, Instruction::Hash),
+        19 => Candidate(NUMBER_OF_WORDS, Instruction::WriteIo(argument)),
+        20 => Candidate(ANY, Instruction::DivMod),
+        22 => Candidate(ANY, Instruction::Xor),
+        24 => Candidate(ANY, Instruction::Recurse),
+        25 => Candidate(STACK_ELEMENT, Instruction::Place(argument)),
+        26 => Candidate(ANY, Instruction::AssertVector),
+        28 => Candidate(ANY, Instruction::PopCount),
+        30 => Candidate(ANY, Instruction::Pow),
+        32 => Candidate(ANY, Instruction::RecurseOrReturn),
+        33 => Candidate(STACK_ELEMENT, Instruction::Dup(argument)),
+        34 => Candidate(ANY, Instruction::SpongeAbsorb),
+        36 => Candidate(ANY, Instruction::MerkleStep),
+        40 => Candidate(ANY, Instruction::SpongeInit),
+        41 => Candidate(STACK_ELEMENT, Instruction::Swap(argument)),
+        42 => Candidate(ANY, Instruction::Add),
+        44 => Candidate(ANY, Instruction::MerkleStepMem),
+        48 => Candidate(ANY, Instruction::SpongeAbsorbMem),
+        49 => Candidate(ANY, Instruction::Call(argument)),
+        50 => Candidate(ANY, Instruction::Mul),
+        56 => Candidate(ANY, Instruction::SpongeSqueeze),
+        57 => Candidate(NUMBER_OF_WORDS, Instruction::ReadMem(argument)),
+        58 => Candidate(ANY, Instruction::Eq),
+        64 => Candidate(ANY, Instruction::Invert),
+        65 => Candidate(ANY, Instruction::AddI(argument)),
+        66 => Candidate(ANY, Instruction::XxAdd),
+        72 => Candidate(ANY, Instruction::XInvert),
+        73 => Candidate(NUMBER_OF_WORDS, Instruction::ReadIo(argument)),
+        74 => Candidate(ANY, Instruction::XxMul),
+        80 => Candidate(ANY, Instruction::XxDotStep),
+        82 => Candidate(ANY, Instruction::XbMul),
+        88 => Candidate(ANY, Instruction::XbDotStep),
+        _ => Candidate(NO_OPCODE, Instruction::Halt),
     }
 }
 
-// The instruction, if its argument is a number of words.
-fn number_of_words(argument: u64, i: Instruction) -> Decoded
-    ensures { λ r. ⌜ r ≡ checked (numberOfWords argument) i ⌝ }
+fn is_stack_element(argument: u64) -> bool
+    ensures { λ r. ⌜ r ≡ allowed (stackElement argument) ⌝ }
+{
+    argument <= 15
+}
+
+fn is_number_of_words(argument: u64) -> bool
+    ensures { λ r. ⌜ r ≡ allowed (numberOfWords argument) ⌝ }
 {
     if argument < 1 {
-        return Decoded::Outside(Class::NumberOfWords, i);
+        return false;
     }
-    if argument <= 5 {
-        Decoded::Read(i)
-    } else {
-        Decoded::Outside(Class::NumberOfWords, i)
+    argument <= 5
+}
+
+// The tests' answers stand in an array: with a branch for each the compiler makes a jump of `candidate_of`, where it makes two tables of
+// bytes.
+fn instruction_from_byte(opcode: u8, argument: u64) -> Decoded
+    ensures { λ r. ⌜ r ≡ decidedOn (kindAt opcode) argument ⌝ }
+{
+    let candidate = candidate_of(opcode, argument);
+    let test = candidate.0;
+    let instruction = candidate.1;
+    let fits = [
+        true,
+        is_stack_element(argument),
+        is_number_of_words(argument),
+        false,
+    ];
+    if fits[test as usize] {
+        return Decoded::Read(instruction);
+    }
+    match test {
+        STACK_ELEMENT => Decoded::Outside(Class::StackElement, instruction),
+        NUMBER_OF_WORDS => Decoded::Outside(Class::NumberOfWords, instruction),
+        _ => Decoded::Unknown,
     }
 }
 
@@ -60,55 +141,11 @@ fn number_of_words(argument: u64, i: Instruction) -> Decoded
 pub fn instruction_from(ci: u64, nia: u64) -> Decoded
     ensures { λ r. ⌜ r ≡ decoded ci nia ⌝ }
 {
-    match ci {
-        1 => Decoded::Read(Instruction::Push(nia)),
-        3 => number_of_words(nia, Instruction::Pop(nia)),
-        9 => number_of_words(nia, Instruction::Divine(nia)),
-        17 => stack_element(nia, Instruction::Pick(nia)),
-        25 => stack_element(nia, Instruction::Place(nia)),
-        33 => stack_element(nia, Instruction::Dup(nia)),
-        41 => stack_element(nia, Instruction::Swap(nia)),
-        0 => Decoded::Read(Instruction::Halt),
-        8 => Decoded::Read(Instruction::Nop),
-        2 => Decoded::Read(Instruction::Skiz),
-        49 => Decoded::Read(Instruction::Call(nia)),
-        16 => Decoded::Read(Instruction::Return),
-        24 => Decoded::Read(Instruction::Recurse),
-        32 => Decoded::Read(Instruction::RecurseOrReturn),
-        10 => Decoded::Read(Instruction::Assert),
-        57 => number_of_words(nia, Instruction::ReadMem(nia)),
-        11 => number_of_words(nia, Instruction::WriteMem(nia)),
-        18 => Decoded::Read(Instruction::Hash),
-        26 => Decoded::Read(Instruction::AssertVector),
-        40 => Decoded::Read(Instruction::SpongeInit),
-        34 => Decoded::Read(Instruction::SpongeAbsorb),
-        48 => Decoded::Read(Instruction::SpongeAbsorbMem),
-        56 => Decoded::Read(Instruction::SpongeSqueeze),
-        42 => Decoded::Read(Instruction::Add),
-        65 => Decoded::Read(Instruction::AddI(nia)),
-        50 => Decoded::Read(Instruction::Mul),
-        64 => Decoded::Read(Instruction::Invert),
-        58 => Decoded::Read(Instruction::Eq),
-        4 => Decoded::Read(Instruction::Split),
-        6 => Decoded::Read(Instruction::Lt),
-        14 => Decoded::Read(Instruction::And),
-        22 => Decoded::Read(Instruction::Xor),
-        12 => Decoded::Read(Instruction::Log2Floor),
-        30 => Decoded::Read(Instruction::Pow),
-        20 => Decoded::Read(Instruction::DivMod),
-        28 => Decoded::Read(Instruction::PopCount),
-        66 => Decoded::Read(Instruction::XxAdd),
-        74 => Decoded::Read(Instruction::XxMul),
-        72 => Decoded::Read(Instruction::XInvert),
-        82 => Decoded::Read(Instruction::XbMul),
-        73 => number_of_words(nia, Instruction::ReadIo(nia)),
-        19 => number_of_words(nia, Instruction::WriteIo(nia)),
-        36 => Decoded::Read(Instruction::MerkleStep),
-        44 => Decoded::Read(Instruction::MerkleStepMem),
-        80 => Decoded::Read(Instruction::XxDotStep),
-        88 => Decoded::Read(Instruction::XbDotStep),
-        _ => Decoded::Unknown,
+    // No opcode exceeds 88.
+    if ci > 88 {
+        return Decoded::Unknown;
     }
+    instruction_from_byte(ci as u8, nia)
 }
 
 // The instruction of a row: SliceLength unless it has 39 words, then WordNotBelowP unless all are below p.

@@ -129,6 +129,18 @@ fn plain_element_inverse(a: &[u64], out: &mut [u64]) -> u32 {
 }
 
 #[inline(never)]
+fn plain_decode(row: &[u64], out: &mut [u64]) -> u32 {
+    if row.len() != WIDTH || out.len() != 2 {
+        return 1;
+    }
+    if row.iter().any(|&w| w >= P) {
+        return 2;
+    }
+    out.copy_from_slice(&plain::decoded(row[CI], row[NIA]));
+    0
+}
+
+#[inline(never)]
 fn plain_extend(main: &[u64], challenges: &[u64], aux: &mut [u64]) -> u32 {
     if main.len() % WIDTH != 0 || aux.len() != main.len() / WIDTH * AUX_WIDTH || challenges.len() != Challenges::WORDS {
         return 1;
@@ -341,6 +353,21 @@ fn main() {
         }
     };
     side_by_side("element inverse", 1024, element_inverses(abi::element_inverse), element_inverses(plain_element_inverse));
+
+    let rows = table(&mut random, CHUNK, &USUAL, 4);
+    let decodings = |f: fn(&[u64], &mut [u64]) -> u32| {
+        let rows = rows.clone();
+        move || {
+            let mut out = [0; 2];
+            for _ in 0..20 {
+                for row in rows.chunks_exact(WIDTH) {
+                    black_box(f(row, &mut out));
+                }
+            }
+            black_box(out);
+        }
+    };
+    side_by_side("decode a row, usual instructions", 20 * CHUNK, decodings(abi::decode), decodings(plain_decode));
 
     const ITEMS: usize = 1 << 20;
     type Scan = (&'static str, usize, fn(&mut [u64], usize) -> u32, fn(&mut [u64]), fn(&mut [u64], usize));
