@@ -15,7 +15,8 @@ use Rattle.air.specs.Count.{from}
 use Rattle.field_base.proofs.Below.{and-true}
 use Rattle.isa.specs.Instruction.{stackElement, numberOfWords, allowed}
 use Rattle.isa_decoding.specs.Decode.{decoded}
-use Rattle.isa_decoding.specs.Byte.{ByteKind, none, alone, word, element, words, bytes, kindAt, decidedOn, candidate}
+use Rattle.isa_decoding.specs.Byte.{ByteKind, none, alone, word, element, words, bytes, kindAt, decidedOn}
+use Rattle.isa_decoding.specs.Candidate.{candidate}
 use Rattle.isa_decoding.specs.Theorems.{OpcodesAreBytes, BytesDecide}
 use Rattle.isa_decoding.specs.declared.Candidate.{Candidate}
 use Rattle.isa_decoding.specs.declared.Decoded.{Decoded}

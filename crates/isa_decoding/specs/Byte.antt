@@ -8,7 +8,6 @@ use Rattle.isa.specs.declared.Instruction.the-variants.{Push, Pop, Divine, Pick
 use Rattle.isa_decoding.specs.Decode.{checked}
 use Rattle.isa_decoding.specs.declared.Decoded.{Decoded}
 use Rattle.isa_decoding.specs.declared.Decoded.the-variants.{Read, Unknown}
-use Rattle.isa_decoding.specs.declared.Candidate.{Candidate}
 
 -- no instruction; one without an argument; one that waits for its argument, any word, a stack element or a number of words
 pub data ByteKind : Type 0 where
@@ -42,11 +41,3 @@ decidedOn (alone i) n = Read i
 decidedOn (word f) n = checked (anyWord n) (f n)
 decidedOn (element f) n = checked (stackElement n) (f n)
 decidedOn (words f) n = checked (numberOfWords n) (f n)
-
--- a kind as the decoder holds it: which of its four tests the argument must pass, and the instruction
-abbrev pub candidate : ByteKind → ℕ → Candidate
-candidate none n = (3, Halt)
-candidate (alone i) n = (0, i)
-candidate (word f) n = (0, f n)
-candidate (element f) n = (1, f n)
-candidate (words f) n = (2, f n)

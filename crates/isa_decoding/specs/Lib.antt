@@ -1,5 +1,6 @@
 -- The decoding of a row.
 pub mod Decode
 pub mod Byte
+pub mod Candidate
 pub mod Answer
 pub mod Theorems

@@ -6,7 +6,8 @@ use refusal::Refusal;
 ghost use mathlib.Core.Path.{_≡_};
 ghost use Rattle.isa.specs.Instruction.{stackElement, numberOfWords, allowed};
 ghost use Rattle.isa_decoding.specs.Decode.{decoded};
-ghost use Rattle.isa_decoding.specs.Byte.{kindAt, decidedOn, candidate};
+ghost use Rattle.isa_decoding.specs.Byte.{kindAt, decidedOn};
+ghost use Rattle.isa_decoding.specs.Candidate.{candidate};
 ghost use Rattle.isa_decoding.specs.Answer.{decodeAnswer};
 
 // What the words CI and NIA stand for.

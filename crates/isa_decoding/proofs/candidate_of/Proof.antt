@@ -1,7 +1,8 @@
 -- `candidate_of` has an arm for each byte with an instruction, in their order, so that the last arm's byte has none.
 use mathlib.Core.Path.{_≡_, sym, ap}
 use Prim.Native.Nat.{ℕ}
-use Rattle.isa_decoding.specs.Byte.{kindAt, candidate}
+use Rattle.isa_decoding.specs.Byte.{kindAt}
+use Rattle.isa_decoding.specs.Candidate.{candidate}
 use Rattle.isa_decoding.proofs.Bytes.{no-instruction}
 use Rattle.isa_decoding.proofs.candidate_of.Statement.{statement}
 use Rattle.isa_decoding.proofs.candidate_of.Tie as tie
