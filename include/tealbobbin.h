@@ -25,9 +25,9 @@ extern "C" {
 
 /* The Rust crate's Cargo.toml has the same version. */
 #define TEALBOBBIN_VERSION_MAJOR 0
-#define TEALBOBBIN_VERSION_MINOR 4
+#define TEALBOBBIN_VERSION_MINOR 5
 #define TEALBOBBIN_VERSION_PATCH 0
-#define TEALBOBBIN_VERSION "0.4.0"
+#define TEALBOBBIN_VERSION "0.5.0"
 
 enum tealbobbin_refusal {
     TEALBOBBIN_DONE = 0,                  /* none */
@@ -42,7 +42,8 @@ enum tealbobbin_refusal {
     TEALBOBBIN_COMMAND_OUT_OF_PLACE = 9,  /* a batch has a command out of place or too often, or lacks one */
     TEALBOBBIN_COMMAND_OUT_OF_ORDER = 10, /* a batch has a command behind one that belongs after it, or a difference below the one
                                              before it */
-    TEALBOBBIN_UNDECODABLE_ROW = 11       /* a row does not decode; strict extension alone */
+    TEALBOBBIN_UNDECODABLE_ROW = 11,      /* a row does not decode; strict extension alone */
+    TEALBOBBIN_HEIGHT_OUT_OF_RANGE = 12   /* a batch's height is out of range, or holds fewer rows than the trace has */
 };
 
 /* p = 2^64 - 2^32 + 1 */
@@ -141,8 +142,14 @@ enum tealbobbin_aux_column {
 #define TEALBOBBIN_BATCH_MAX_INPUT 64
 #define TEALBOBBIN_BATCH_MAX_OUTPUT 64
 
-/* The bytes of a batch with this many trace rows, and this many differences, input and output words together. */
-#define TEALBOBBIN_BATCH_BYTES(rows, words) (1464 + 313 * (size_t)(rows) + 9 * (size_t)(words))
+/* The most k of a batch whose table is to have 2^k rows: these are TEALBOBBIN_MAX_LEN. */
+#define TEALBOBBIN_BATCH_MAX_LOG2_HEIGHT 22
+
+/*
+ * The bytes of a batch with this many trace rows, and this many differences, input and output words together, whose table is to
+ * have 2^k rows, or the height that the trace sets where k is 0.
+ */
+#define TEALBOBBIN_BATCH_BYTES(rows, words, k) (1464 + 313 * (size_t)(rows) + 9 * (size_t)(words) + ((k) ? 2 : 0))
 
 /* The form of the words in a batch's trace rows. */
 enum tealbobbin_form {
@@ -158,7 +165,8 @@ enum tealbobbin_count {
     TEALBOBBIN_COUNT_JUMP_STACK = 3,
     TEALBOBBIN_COUNT_INPUT = 4,
     TEALBOBBIN_COUNT_OUTPUT = 5,
-    TEALBOBBIN_COUNTS = 6
+    TEALBOBBIN_COUNT_LOG2_HEIGHT = 6, /* k, where the batch sets 2^k rows, or 0, where the trace sets the height */
+    TEALBOBBIN_COUNTS = 7
 };
 
 /*
@@ -332,9 +340,9 @@ uint32_t tealbobbin_extend_strict(const uint64_t *main, size_t main_count, const
 /*
  * Opens a batch of at most 16384 bytes; docs/BATCH.md has the format. Into the slices go, from their start on, `trace` (1248
  * words): its rows; `op_stack`, `ram`, `jump_stack` (128 each): the clock jump differences; `sampled` (177) and `digest` (5), as
- * tealbobbin_challenges takes them; `input` and `output` (64 each); `counts` (6): how many of each, by enum tealbobbin_count.
- * Words past the counts stay. All words are plain, also where the batch has its rows in Montgomery form. Batches with rows of one
- * form that open to equal contents have equal bytes.
+ * tealbobbin_challenges takes them; `input` and `output` (64 each); `counts` (7): how many of each, and k, by enum
+ * tealbobbin_count. Words past the counts stay. All words are plain, also where the batch has its rows in Montgomery form. Batches
+ * with rows of one form that open to equal contents have equal bytes.
  *
  * 1: `batch` has more bytes, or another slice has another length.
  * Then for each command, from left to right:
@@ -344,6 +352,7 @@ uint32_t tealbobbin_extend_strict(const uint64_t *main, size_t main_count, const
  *    challenges or digest are missing or bytes follow.
  * 10: the command belongs in front of one before it, or its difference is below the one before it in the same list.
  * 3: the number of rows is 0 or above 32.
+ * 12: k is 0 or above 22, or 2^k below the number of rows.
  * 2: a word of the operand, as it is sent, is not below p.
  */
 uint32_t tealbobbin_open(const uint8_t *batch, size_t batch_count, uint64_t *trace, size_t trace_count,
@@ -357,18 +366,30 @@ uint32_t tealbobbin_open(const uint8_t *batch, size_t batch_count, uint64_t *tra
  * `ram`, `jump_stack`, the clock jump differences in any order, which it sorts; `sampled` and `digest`, as tealbobbin_challenges
  * takes them; `input` and `output` in their order. Each slice is as long as what it brings, and the lists, `input` and `output` may
  * be empty. A difference need not be below the number of rows. All words are plain; unless `form` is TEALBOBBIN_FORM_PLAIN, those
- * of the rows are written in Montgomery form.
+ * of the rows are written in Montgomery form. The table is to have 2^k rows; where k is 0, the trace sets its height.
  *
  * 1: `trace` is not whole rows, a list has more than 128 words, `input` or `output` more than 64, `sampled` not 177 or `digest` not
- *    5, or `batch` not TEALBOBBIN_BATCH_BYTES bytes, with the rows of `trace` and the words of the lists, `input` and `output`.
+ *    5, or `batch` not TEALBOBBIN_BATCH_BYTES bytes, with the rows of `trace`, the words of the lists, `input` and `output`, and k.
  * 3: `trace` has no row or more than 32.
+ * 12: k is above 22, or not 0 and 2^k below the rows of `trace`.
  * 2: a word is not below p.
  */
 uint32_t tealbobbin_write(const uint64_t *trace, size_t trace_count, const uint64_t *op_stack, size_t op_stack_count,
                           const uint64_t *ram, size_t ram_count, const uint64_t *jump_stack, size_t jump_stack_count,
                           const uint64_t *sampled, size_t sampled_count, const uint64_t *digest, size_t digest_count,
                           const uint64_t *input, size_t input_count, const uint64_t *output, size_t output_count,
-                          uint64_t form, uint8_t *batch, size_t batch_count);
+                          uint64_t form, uint64_t k, uint8_t *batch, size_t batch_count);
+
+/*
+ * The last row of the auxiliary table that a batch leads to, into `cells`, 33 words: what tealbobbin_extend writes there once the
+ * batch is opened, its challenges derived, and its table filled and padded. That has 2^k rows, or, where the batch sets no height,
+ * the smallest power of two that holds the trace, at least 2. No table is kept: at every k the call needs the same memory, and its
+ * time grows with 2^k.
+ *
+ * 1: `cells` has another length.
+ * Then as tealbobbin_open; 4 as tealbobbin_fill; 6 as tealbobbin_extend.
+ */
+uint32_t tealbobbin_terminals(const uint8_t *batch, size_t batch_count, uint64_t *cells, size_t cells_count);
 
 #ifdef __cplusplus
 }

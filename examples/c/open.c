@@ -1,13 +1,16 @@
 /*
- * open [FILE]: opens the batch in FILE, or the one on standard input, and prints the eleven cells of the last row of its table,
- * column then coefficients, or `refused` and the number of the first refusal.
+ * open [FILE]: opens the batch in FILE, or the one on standard input, builds its table, and prints the eleven cells of its last row,
+ * column then coefficients, or `refused` and the number of the first refusal. Where only these cells are wanted, terminals.c needs
+ * no table.
  *
  *     cc examples/c/open.c -I include -L target/staticlib -ltealbobbin -o target/open
  *
- * Exit status: 0, 3 if the batch is refused, 2 if it cannot be read, 1 if the cells cannot be written.
+ * Exit status: 0, 3 if the batch is refused, 2 if it cannot be read, 1 if there is no memory for its table, or the cells cannot be
+ * written.
  */
 #include <inttypes.h>
 #include <stdio.h>
+#include <stdlib.h>
 
 #include "tealbobbin.h"
 
@@ -28,19 +31,30 @@ static uint64_t input[TEALBOBBIN_BATCH_MAX_INPUT];
 static uint64_t output[TEALBOBBIN_BATCH_MAX_OUTPUT];
 static uint64_t counts[TEALBOBBIN_COUNTS];
 
-/* What is made of it. A table is as high as the largest trace at most, since that is a power of two. */
+/* What is made of it. */
 static uint64_t challenges[TEALBOBBIN_RECORD_WORDS];
-static uint64_t table[TEALBOBBIN_BATCH_MAX_ROWS * TEALBOBBIN_MAIN_WIDTH];
-static uint64_t aux[TEALBOBBIN_BATCH_MAX_ROWS * TEALBOBBIN_AUX_WORDS];
-static uint64_t work[TEALBOBBIN_BATCH_MAX_ROWS * TEALBOBBIN_WORK_WORDS];
+static size_t height;
+static uint64_t *table, *aux, *work;
 
-/* The smallest power of two, at least 2, that holds the trace. */
-static size_t height_of(size_t rows)
+/* The height that the batch sets, or the smallest power of two, at least 2, that holds the trace. */
+static size_t height_of_table(void)
 {
     size_t height = 2;
-    while (height < rows)
+    if (counts[TEALBOBBIN_COUNT_LOG2_HEIGHT])
+        return (size_t)1 << counts[TEALBOBBIN_COUNT_LOG2_HEIGHT];
+    while (height < counts[TEALBOBBIN_COUNT_ROWS])
         height *= 2;
     return height;
+}
+
+static uint64_t *room(size_t words)
+{
+    uint64_t *room = calloc(words, sizeof(uint64_t));
+    if (!room) {
+        fprintf(stderr, "no memory for %zu words\n", words);
+        exit(1);
+    }
+    return room;
 }
 
 /* Each step is taken only if the one before it was not refused; the answer is the first refusal. */
@@ -53,7 +67,10 @@ static uint32_t extend_batch(size_t batch_count)
         return refusal;
 
     size_t rows = counts[TEALBOBBIN_COUNT_ROWS];
-    size_t height = height_of(rows);
+    height = height_of_table();
+    table = room(height * TEALBOBBIN_MAIN_WIDTH);
+    aux = room(height * TEALBOBBIN_AUX_WORDS);
+    work = room(height * TEALBOBBIN_WORK_WORDS);
     refusal = tealbobbin_challenges(sampled, COUNT(sampled), digest, COUNT(digest), input, counts[TEALBOBBIN_COUNT_INPUT],
                                     output, counts[TEALBOBBIN_COUNT_OUTPUT], challenges, COUNT(challenges));
     if (refusal)
@@ -89,8 +106,7 @@ int main(int argc, char **argv)
         printf("refused %" PRIu32 "\n", refusal);
         return 3;
     }
-    size_t last = height_of(counts[TEALBOBBIN_COUNT_ROWS]) - 1;
-    const uint64_t *cell = aux + last * TEALBOBBIN_AUX_WORDS;
+    const uint64_t *cell = aux + (height - 1) * TEALBOBBIN_AUX_WORDS;
     for (int column = 0; column < TEALBOBBIN_AUX_WIDTH; column++, cell += TEALBOBBIN_ELEMENT_WORDS)
         printf("%d %" PRIu64 " %" PRIu64 " %" PRIu64 "\n", column, cell[0], cell[1], cell[2]);
     return fflush(stdout) ? 1 : 0;

@@ -41,7 +41,7 @@ static uint32_t rewrite(enum tealbobbin_form form, size_t batch_count)
                             op_stack, counts[TEALBOBBIN_COUNT_OP_STACK], ram, counts[TEALBOBBIN_COUNT_RAM],
                             jump_stack, counts[TEALBOBBIN_COUNT_JUMP_STACK], sampled, COUNT(sampled), digest, COUNT(digest),
                             input, counts[TEALBOBBIN_COUNT_INPUT], output, counts[TEALBOBBIN_COUNT_OUTPUT],
-                            form, batch, batch_count);
+                            form, counts[TEALBOBBIN_COUNT_LOG2_HEIGHT], batch, batch_count);
 }
 
 int main(int argc, char **argv)

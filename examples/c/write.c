@@ -16,15 +16,15 @@ static const uint64_t trace[ROWS * TEALBOBBIN_MAIN_WIDTH];
 static const uint64_t digest[TEALBOBBIN_DIGEST_WORDS];
 static uint64_t sampled[TEALBOBBIN_SAMPLED_WORDS];
 
-/* There are no differences, and no input or output: no words but those of every batch. */
-static uint8_t batch[TEALBOBBIN_BATCH_BYTES(ROWS, 0)];
+/* There are no differences, and no input or output: no words but those of every batch. The trace sets the height. */
+static uint8_t batch[TEALBOBBIN_BATCH_BYTES(ROWS, 0, 0)];
 
 int main(void)
 {
     for (size_t i = 0; i < COUNT(sampled); i += TEALBOBBIN_ELEMENT_WORDS)
         sampled[i] = 2;
     uint32_t refusal = tealbobbin_write(trace, COUNT(trace), NULL, 0, NULL, 0, NULL, 0, sampled, COUNT(sampled),
-                                        digest, COUNT(digest), NULL, 0, NULL, 0, TEALBOBBIN_FORM_PLAIN, batch, sizeof(batch));
+                                        digest, COUNT(digest), NULL, 0, NULL, 0, TEALBOBBIN_FORM_PLAIN, 0, batch, sizeof(batch));
     if (refusal) {
         fprintf(stderr, "refused %" PRIu32 "\n", refusal);
         return 3;

@@ -691,12 +691,21 @@ static void extend_strict(void)
 
 /* Batches. */
 
-enum { END, ROWS_TO_COME, PLAIN_ROW, OP_STACK, RAM, JUMP_STACK, SAMPLED, DIGEST, INPUT, OUTPUT, MONTGOMERY_ROW, UNKNOWN };
+enum { END, ROWS_TO_COME, PLAIN_ROW, OP_STACK, RAM, JUMP_STACK, SAMPLED, DIGEST, INPUT, OUTPUT, MONTGOMERY_ROW, HEIGHT, UNKNOWN };
 
 /* The form of rows that are put and written, and the command of a row in it, and of one in the other. */
 static uint64_t form;
 #define TRACE_ROW (form ? MONTGOMERY_ROW : PLAIN_ROW)
 #define OTHER_ROW (form ? PLAIN_ROW : MONTGOMERY_ROW)
+
+/* Batches that are put and written set 2^log2_height rows, or, where it is 0, leave the height to the trace. */
+static uint64_t log2_height;
+static const uint64_t heights[] = {0, TEALBOBBIN_BATCH_MAX_LOG2_HEIGHT};
+
+static int fits(uint64_t k, size_t rows)
+{
+    return k >= 1 && k <= TEALBOBBIN_BATCH_MAX_LOG2_HEIGHT && rows <= (size_t)1 << k;
+}
 
 static uint8_t bytes[TEALBOBBIN_BATCH_MAX_BYTES + 1];
 static size_t byte_count;
@@ -715,10 +724,19 @@ static void put_command(uint8_t command, size_t words, uint64_t first)
         put(first + i, 8);
 }
 
+static void put_height(uint64_t k)
+{
+    put(HEIGHT, 1);
+    put(k, 1);
+}
+
+/* And the height, if one is to be set. */
 static void put_rows_to_come(uint32_t rows)
 {
     put(ROWS_TO_COME, 1);
     put(rows, 4);
+    if (log2_height)
+        put_height(log2_height);
 }
 
 /* A trace row whose words, once opened, count up from the first. */
@@ -833,7 +851,7 @@ static void open_one_row(void)
     COUNTS_UP(L_DIGEST, 50, TEALBOBBIN_DIGEST_WORDS);
     for (size_t l = 0; l < COUNT(lists); l++)
         COUNTS_UP(lists[l].slice, 0, 0);
-    HOLDS(lent[L_COUNTS].words, 1, 0, 0, 0, 0, 0);
+    HOLDS(lent[L_COUNTS].words, 1, 0, 0, 0, 0, 0, log2_height);
 }
 
 static void open_every_command(void)
@@ -868,6 +886,27 @@ static void open_every_command(void)
     TRUE(counts[TEALBOBBIN_COUNT_JUMP_STACK] == 1);
     TRUE(counts[TEALBOBBIN_COUNT_INPUT] == 4);
     TRUE(counts[TEALBOBBIN_COUNT_OUTPUT] == 1);
+    TRUE(counts[TEALBOBBIN_COUNT_LOG2_HEIGHT] == log2_height);
+}
+
+/* Each k that holds each number of rows. */
+static void open_heights(void)
+{
+    for (uint32_t rows = 1; rows <= TEALBOBBIN_BATCH_MAX_ROWS; rows++)
+        for (log2_height = 1; log2_height <= TEALBOBBIN_BATCH_MAX_LOG2_HEIGHT; log2_height++) {
+            if (!fits(log2_height, rows))
+                continue;
+            byte_count = 0;
+            put_rows_to_come(rows);
+            put_command(DIGEST, TEALBOBBIN_DIGEST_WORDS, 0);
+            put_command(SAMPLED, TEALBOBBIN_SAMPLED_WORDS, 0);
+            for (uint32_t r = 0; r < rows; r++)
+                put_row(0);
+            put_command(END, 0, 0);
+            DONE(open_bytes());
+            HOLDS(lent[L_COUNTS].words, rows, 0, 0, 0, 0, 0, log2_height);
+        }
+    log2_height = 0;
 }
 
 /* Differences that are equal, or that ascend by a high byte alone; input and output words that descend. */
@@ -915,14 +954,14 @@ static void put_largest(void)
 static void open_largest(void)
 {
     put_largest();
-    TRUE(byte_count == 16088);
+    TRUE(byte_count == (log2_height ? 16090 : 16088));
     DONE(open_bytes());
     COUNTS_UP(L_TRACE, 3000, TEALBOBBIN_BATCH_MAX_TRACE_WORDS);
     COUNTS_UP(L_SAMPLED, 2002, TEALBOBBIN_SAMPLED_WORDS);
     COUNTS_UP(L_DIGEST, 52, TEALBOBBIN_DIGEST_WORDS);
     for (size_t l = 0; l < COUNT(lists); l++)
         COUNTS_UP(lists[l].slice, 1000 * l, lists[l].most);
-    HOLDS(lent[L_COUNTS].words, 32, 128, 128, 128, 64, 64);
+    HOLDS(lent[L_COUNTS].words, 32, 128, 128, 128, 64, 64, log2_height);
 }
 
 /* Before all else. */
@@ -1081,6 +1120,50 @@ static void open_refuses_3(void)
     }
 }
 
+/* Every k that does not hold each number of rows; 8, 9 and 10 come before. */
+static void open_refuses_12(void)
+{
+    for (uint32_t rows = 1; rows <= TEALBOBBIN_BATCH_MAX_ROWS; rows++)
+        for (uint64_t k = 0; k < 256; k++) {
+            if (fits(k, rows))
+                continue;
+            byte_count = 0;
+            put_rows_to_come(rows);
+            put_height(k);
+            put(UNKNOWN, 1);
+            REFUSED(12, open_bytes());
+        }
+    static const uint64_t wrong[] = {0, 1, TEALBOBBIN_BATCH_MAX_LOG2_HEIGHT + 1, 255};
+    for (size_t i = 0; i < COUNT(wrong); i++) {
+        byte_count = 0;
+        put_height(wrong[i]);
+        REFUSED(9, open_bytes());
+        byte_count--;
+        REFUSED(8, open_bytes());
+        byte_count = 0;
+        put_rows_to_come(3);
+        put_height(2);
+        size_t before = byte_count;
+        put_height(wrong[i]);
+        REFUSED(9, open_bytes());
+        byte_count--;
+        REFUSED(8, open_bytes());
+        byte_count = before;
+        put_in_order(0, 7);
+        put_height(wrong[i]);
+        REFUSED(9, open_bytes());
+        for (size_t o = 0; o < COUNT(order); o++) {
+            byte_count = 0;
+            put_rows_to_come(3);
+            put_in_order(o, 7);
+            put_height(wrong[i]);
+            REFUSED(10, open_bytes());
+            byte_count--;
+            REFUSED(8, open_bytes());
+        }
+    }
+}
+
 /* The last word of each command is p, and the others are below. */
 static void open_refuses_2(void)
 {
@@ -1114,9 +1197,8 @@ static const char *const examples[][2] = {
     {"examples/undecodable.batch", "examples/undecodable-montgomery.batch"},
 };
 
-static void read_example(size_t example)
+static void read_batch(const char *name)
 {
-    const char *name = examples[example][form ? 1 : 0];
     FILE *file = fopen(name, "rb");
     byte_count = file ? fread(bytes, 1, sizeof(bytes), file) : 0;
     if (!byte_count) {
@@ -1124,6 +1206,16 @@ static void read_example(size_t example)
         give_up("it cannot be read");
     }
     fclose(file);
+}
+
+static void read_example(size_t example)
+{
+    read_batch(examples[example][form ? 1 : 0]);
+}
+
+static void read_height_example(void)
+{
+    read_batch("examples/document-01-height-18.batch");
 }
 
 /* Both open to the same. */
@@ -1142,24 +1234,33 @@ static void open_examples(void)
                 HOLDS_WORDS(lent[s].words, plain[s], lengths[s] + 1);
             }
         }
+    read_height_example();
+    DONE(open_bytes());
+    HOLDS(lent[L_COUNTS].words, 1, 0, 0, 0, 0, 0, 18);
 }
 
 static void open(void)
 {
     lend_all();
     for (form = 0; form < 2; form++) {
-        open_one_row();
-        open_every_command();
-        open_orders();
-        open_largest();
-        open_refuses_1();
-        open_refuses_7();
-        open_refuses_8();
-        open_refuses_9();
-        open_refuses_mixtures();
-        open_refuses_10();
-        open_refuses_3();
-        open_refuses_2();
+        for (size_t h = 0; h < COUNT(heights); h++) {
+            log2_height = heights[h];
+            open_one_row();
+            open_every_command();
+            open_orders();
+            open_largest();
+            open_refuses_1();
+            open_refuses_7();
+            open_refuses_8();
+            open_refuses_9();
+            open_refuses_mixtures();
+            open_refuses_10();
+            open_refuses_3();
+            open_refuses_2();
+        }
+        log2_height = 0;
+        open_heights();
+        open_refuses_12();
     }
     open_examples();
 }
@@ -1172,7 +1273,8 @@ static uint32_t write_lent(size_t count)
 {
     return tealbobbin_write(lent[0].words, lent[0].count, lent[1].words, lent[1].count, lent[2].words, lent[2].count,
                             lent[3].words, lent[3].count, lent[4].words, lent[4].count, lent[5].words, lent[5].count,
-                            lent[6].words, lent[6].count, lent[7].words, lent[7].count, form, (uint8_t *)written, count);
+                            lent[6].words, lent[6].count, lent[7].words, lent[7].count, form, log2_height,
+                            (uint8_t *)written, count);
 }
 
 /* The bytes that the batch of what is lent would have. */
@@ -1181,7 +1283,7 @@ static size_t length_of_lent(void)
     size_t words = 0;
     for (size_t l = 0; l < COUNT(lists); l++)
         words += lent[lists[l].slice].count;
-    return TEALBOBBIN_BATCH_BYTES(lent[L_TRACE].count / ROW, words);
+    return TEALBOBBIN_BATCH_BYTES(lent[L_TRACE].count / ROW, words, log2_height);
 }
 
 /* Writes what is lent: that is `bytes`. All else is as before. */
@@ -1229,8 +1331,15 @@ static void write_example(void)
         lent[L_SAMPLED].words[i] = i % ELEMENT ? 0 : 2;
     WRITES();
     DONE(tealbobbin_write(lent[L_TRACE].words, ROW, NULL, 0, NULL, 0, NULL, 0, lent[L_SAMPLED].words, TEALBOBBIN_SAMPLED_WORDS,
-                          lent[L_DIGEST].words, TEALBOBBIN_DIGEST_WORDS, NULL, 0, NULL, 0, form, (uint8_t *)written, byte_count));
+                          lent[L_DIGEST].words, TEALBOBBIN_DIGEST_WORDS, NULL, 0, NULL, 0, form, 0, (uint8_t *)written,
+                          byte_count));
     TRUE(memcmp(written, bytes, byte_count) == 0);
+    if (form)
+        return;
+    read_height_example();
+    log2_height = 18;
+    WRITES();
+    log2_height = 0;
 }
 
 /* Differences that are above the rows, equal, and in no order; input and output in theirs. */
@@ -1333,11 +1442,29 @@ static void write_refuses_3(void)
         lent[lists[l].slice].count = lists[l].most;
     REFUSED(3, write_lent(length_of_lent()));
 
-    const size_t rows = MAX_LEN + 1, length = TEALBOBBIN_BATCH_BYTES(rows, 0);
+    const size_t rows = MAX_LEN + 1, length = TEALBOBBIN_BATCH_BYTES(rows, 0, log2_height);
     uint8_t *many = (uint8_t *)lend_many(length / sizeof(uint64_t) + 1);
     REFUSED(3, tealbobbin_write(lend_many(rows * ROW), rows * ROW, NULL, 0, NULL, 0, NULL, 0, lent[L_SAMPLED].words,
                                 TEALBOBBIN_SAMPLED_WORDS, lent[L_DIGEST].words, TEALBOBBIN_DIGEST_WORDS, NULL, 0, NULL, 0,
-                                form, many, length));
+                                form, log2_height, many, length));
+}
+
+/* Behind 3, and before 2: every word is stale. */
+static void write_refuses_12(void)
+{
+    static const uint64_t large[] = {256 + 5, (UINT64_C(1) << 32) + 5, (UINT64_C(1) << 63) + 5, UINT64_MAX};
+    bring_rows(0);
+    for (size_t s = 0; s < L_COUNTS; s++)
+        make_stale(lent[s].words, lengths[s] + ROW);
+    for (size_t rows = 0; rows <= TEALBOBBIN_BATCH_MAX_ROWS + 1; rows++)
+        for (size_t k = 1; k < 70; k++) {
+            log2_height = k < 70 - COUNT(large) ? k : large[k - (70 - COUNT(large))];
+            lent[L_TRACE].count = rows * ROW;
+            int in_range = rows >= 1 && rows <= TEALBOBBIN_BATCH_MAX_ROWS;
+            REFUSED(!in_range ? 3 : fits(log2_height, rows) ? 2 : 12, write_lent(length_of_lent()));
+            REFUSED(1, write_lent(length_of_lent() - 2));
+        }
+    log2_height = 0;
 }
 
 /* Each word of each slice. */
@@ -1359,24 +1486,156 @@ static void write(void)
 {
     /* whatever is not 0 is Montgomery form, also where its low bytes are 0 */
     static const uint64_t forms[] = {TEALBOBBIN_FORM_PLAIN, TEALBOBBIN_FORM_MONTGOMERY, 2, 256, UINT64_C(1) << 32, UINT64_MAX};
-    for (size_t f = 0; f < COUNT(forms); f++) {
-        form = forms[f];
+    for (size_t i = 0; i < COUNT(forms) * COUNT(heights); i++) {
+        form = forms[i / COUNT(heights)];
+        log2_height = heights[i % COUNT(heights)];
         for (size_t s = 0; s < L_COUNTS; s++)
             lent[s].words = lend(lengths[s] + ROW);
         written = lend(WRITTEN);
-        write_example();
         write_every_command();
         write_refuses_1(0);
         write_refuses_1(1);
         write_refuses_1(TEALBOBBIN_BATCH_MAX_ROWS + 1);
         write_refuses_3();
         write_refuses_2();
+        if (!log2_height) {
+            write_example();
+            write_refuses_12();
+        }
         give_back();
         lend_all();
         written = lend(WRITTEN);
         write_largest();
         give_back();
     }
+    log2_height = 0;
+}
+
+/* From a batch to the last row's cells. */
+
+enum { CELLS = TEALBOBBIN_AUX_WORDS };
+
+static uint64_t *cells;
+
+static uint32_t terminals_of_bytes(void)
+{
+    uint8_t *batch = room(byte_count);
+    memcpy(batch, bytes, byte_count);
+    uint32_t answer = tealbobbin_terminals(batch, byte_count, cells, CELLS);
+    TRUE(memcmp(batch, bytes, byte_count) == 0);
+    free(batch);
+    return answer;
+}
+
+/* Document 01's example at 2^log2_height rows, and these differences of the jump stack. */
+static void put_zeros(size_t differences, uint64_t difference)
+{
+    byte_count = 0;
+    put_rows_to_come(1);
+    put(DIGEST, 1);
+    for (size_t i = 0; i < TEALBOBBIN_DIGEST_WORDS; i++)
+        put(0, 8);
+    put(SAMPLED, 1);
+    for (size_t i = 0; i < TEALBOBBIN_SAMPLED_WORDS; i++)
+        put(i % ELEMENT ? 0 : 2, 8);
+    put(TRACE_ROW, 1);
+    for (size_t i = 0; i < ROW; i++)
+        put(0, 8);
+    for (size_t i = 0; i < differences; i++)
+        put_command(JUMP_STACK, 1, difference);
+    put_command(END, 0, 0);
+}
+
+/* Row 1 counts the padding rows, and its CLK is 1, one below the indeterminate. */
+static void terminals_of_zeros(void)
+{
+    for (form = 0; form < 2; form++)
+        for (log2_height = 0; log2_height <= TEALBOBBIN_BATCH_MAX_LOG2_HEIGHT; log2_height++) {
+            uint64_t due[CELLS] = {0};
+            uint64_t clock = log2_height ? (UINT64_C(1) << log2_height) - 1 : 1;
+            static const uint64_t columns[TEALBOBBIN_AUX_WIDTH] = {1, 1, HALF, 1, 1, 0, 1, 1, 1, 0};
+            for (size_t c = 0; c < TEALBOBBIN_AUX_WIDTH; c++)
+                due[c * ELEMENT] = columns[c];
+            due[TEALBOBBIN_AUX_CLOCK_JUMP_DIFFERENCE_LOOKUP_SERVER_LOG_DERIVATIVE * ELEMENT] = clock;
+            put_zeros(0, 0);
+            DONE(terminals_of_bytes());
+            HOLDS_WORDS(cells, due, CELLS);
+            /* row 0's clock is 0, two below the indeterminate */
+            put_zeros(2, 0);
+            due[TEALBOBBIN_AUX_CLOCK_JUMP_DIFFERENCE_LOOKUP_SERVER_LOG_DERIVATIVE * ELEMENT] = clock + 1;
+            DONE(terminals_of_bytes());
+            HOLDS_WORDS(cells, due, CELLS);
+            if (log2_height == 12)
+                log2_height = TEALBOBBIN_BATCH_MAX_LOG2_HEIGHT - 1;
+        }
+    form = log2_height = 0;
+}
+
+/* Before all else; and a batch that is too long. */
+static void terminals_refuses_1(void)
+{
+    static const size_t wrong[] = {0, 1, CELLS - 1, CELLS + 1};
+    put_zeros(0, 0);
+    for (size_t i = 0; i < COUNT(wrong); i++) {
+        REFUSED(1, tealbobbin_terminals(bytes, byte_count, cells, wrong[i]));
+        REFUSED(1, tealbobbin_terminals(NULL, 0, cells, wrong[i]));
+    }
+    REFUSED(1, tealbobbin_terminals(bytes, byte_count, NULL, 0));
+    REFUSED(8, tealbobbin_terminals(NULL, 0, cells, CELLS));
+    memset(bytes, 0, sizeof(bytes));
+    byte_count = TEALBOBBIN_BATCH_MAX_BYTES + 1;
+    REFUSED(1, terminals_of_bytes());
+    byte_count = TEALBOBBIN_BATCH_MAX_BYTES;
+    REFUSED(9, terminals_of_bytes());
+}
+
+/* Those of open, each before those that come later. */
+static void terminals_refuses_as_open(void)
+{
+    put_zeros(1, 1);
+    byte_count--;
+    REFUSED(8, terminals_of_bytes());
+    put(UNKNOWN, 1);
+    REFUSED(7, terminals_of_bytes());
+    put_zeros(1, 1);
+    put(END, 1);
+    REFUSED(9, terminals_of_bytes());
+    put_zeros(1, 1);
+    byte_count--;
+    put_command(OP_STACK, 1, P);
+    REFUSED(10, terminals_of_bytes());
+    put_zeros(1, P);
+    REFUSED(2, terminals_of_bytes());
+    byte_count = 0;
+    put_rows_to_come(0);
+    REFUSED(3, terminals_of_bytes());
+    byte_count = 0;
+    put_rows_to_come(3);
+    put_height(1);
+    REFUSED(12, terminals_of_bytes());
+}
+
+/* At every height: fill's before extension's. The clock's indeterminate becomes row 1's CLK, and row 1 is padding. */
+static void terminals_refuses_4_and_6(void)
+{
+    for (log2_height = 0; log2_height <= 10; log2_height++)
+        for (uint64_t difference = 0; difference < 3; difference++) {
+            put_zeros(difference > 0, difference);
+            size_t sampled = byte_count - 1 - (difference > 0 ? 9 : 0) - (1 + 8 * ROW) - 8 * TEALBOBBIN_SAMPLED_WORDS;
+            bytes[sampled + 8 * ELEMENT * 11] = 1;
+            REFUSED(difference ? 4 : 6, terminals_of_bytes());
+        }
+    log2_height = 0;
+}
+
+static void terminals(void)
+{
+    form = log2_height = 0;
+    cells = lend(CELLS + 1);
+    terminals_of_zeros();
+    terminals_refuses_1();
+    terminals_refuses_as_open();
+    terminals_refuses_4_and_6();
 }
 
 static void constants(void)
@@ -1391,8 +1650,10 @@ static void constants(void)
     TRUE(TEALBOBBIN_SAMPLED_WORDS == TEALBOBBIN_SAMPLE_COUNT * ELEMENT);
     TRUE(TEALBOBBIN_AUX_WORDS == TEALBOBBIN_AUX_WIDTH * ELEMENT);
     TRUE(TEALBOBBIN_BATCH_MAX_TRACE_WORDS == TEALBOBBIN_BATCH_MAX_ROWS * ROW);
-    TRUE(TEALBOBBIN_BATCH_BYTES(1, 0) == 1777);
-    TRUE(TEALBOBBIN_BATCH_BYTES(TEALBOBBIN_BATCH_MAX_ROWS, 3 * TEALBOBBIN_BATCH_MAX_DIFFERENCES + 64 + 64) == 16088);
+    TRUE(MAX_LEN == 1 << TEALBOBBIN_BATCH_MAX_LOG2_HEIGHT);
+    TRUE(TEALBOBBIN_BATCH_BYTES(1, 0, 0) == 1777);
+    TRUE(TEALBOBBIN_BATCH_BYTES(1, 0, 1) == 1779);
+    TRUE(TEALBOBBIN_BATCH_BYTES(TEALBOBBIN_BATCH_MAX_ROWS, 3 * TEALBOBBIN_BATCH_MAX_DIFFERENCES + 64 + 64, 22) == 16090);
 }
 
 static const struct {
@@ -1430,8 +1691,14 @@ static const struct {
       TEALBOBBIN_WORD_NOT_BELOW_P, TEALBOBBIN_UNDECODABLE_ROW, TEALBOBBIN_ZERO_DENOMINATOR}},
     {"open", open,
      {TEALBOBBIN_SLICE_LENGTH, TEALBOBBIN_UNKNOWN_COMMAND, TEALBOBBIN_BATCH_CUT_OFF,
-      TEALBOBBIN_COMMAND_OUT_OF_PLACE, TEALBOBBIN_COMMAND_OUT_OF_ORDER, TEALBOBBIN_ROW_COUNT, TEALBOBBIN_WORD_NOT_BELOW_P}},
-    {"write", write, {TEALBOBBIN_SLICE_LENGTH, TEALBOBBIN_ROW_COUNT, TEALBOBBIN_WORD_NOT_BELOW_P}},
+      TEALBOBBIN_COMMAND_OUT_OF_PLACE, TEALBOBBIN_COMMAND_OUT_OF_ORDER, TEALBOBBIN_ROW_COUNT, TEALBOBBIN_HEIGHT_OUT_OF_RANGE,
+      TEALBOBBIN_WORD_NOT_BELOW_P}},
+    {"write", write,
+     {TEALBOBBIN_SLICE_LENGTH, TEALBOBBIN_ROW_COUNT, TEALBOBBIN_HEIGHT_OUT_OF_RANGE, TEALBOBBIN_WORD_NOT_BELOW_P}},
+    {"terminals", terminals,
+     {TEALBOBBIN_SLICE_LENGTH, TEALBOBBIN_UNKNOWN_COMMAND, TEALBOBBIN_BATCH_CUT_OFF,
+      TEALBOBBIN_COMMAND_OUT_OF_PLACE, TEALBOBBIN_COMMAND_OUT_OF_ORDER, TEALBOBBIN_ROW_COUNT, TEALBOBBIN_HEIGHT_OUT_OF_RANGE,
+      TEALBOBBIN_WORD_NOT_BELOW_P, TEALBOBBIN_DIFFERENCE_TOO_LARGE, TEALBOBBIN_ZERO_DENOMINATOR}},
 };
 
 int main(void)

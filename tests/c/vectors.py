@@ -1,5 +1,5 @@
-"""vectors.py PROGRAM FILE: runs examples/c/open.c on the batches of FILE, which has the original's answers; src/main.rt beside it
-says how it is laid out.
+"""vectors.py PROGRAM FILE: runs examples/c/open.c, or terminals.c, on the batches of FILE, which has the original's answers;
+src/main.rt beside it says how it is laid out.
 
 Prints each batch for which it prints something else than the original's answer; exit status 1 if there is any, or no batch.
 """

@@ -32,6 +32,11 @@ impl Builder {
         self.raw(&[&[1], rows.to_le_bytes().as_slice()].concat())
     }
 
+    /// The table has 2^k rows.
+    pub fn height(&mut self, k: u8) -> &mut Builder {
+        self.raw(&[11, k])
+    }
+
     /// The trace's next row.
     pub fn row(&mut self, row: &[u64; MAIN_WIDTH]) -> &mut Builder {
         self.row_as_sent(Form::Plain, row)

@@ -12,11 +12,32 @@ pub fn marks(length: usize) -> Vec<u64> {
 /// The kinds of what decoding answers, by its first word.
 pub const DECODED: [&str; 4] = ["opcode unknown", "read", "argument outside 0 to 15", "argument outside 1 to 5"];
 
+/// The heights at which walks are compared, 2^k rows.
+pub const HEIGHTS: [(u64, &str); 17] = [
+    (1, "k 1"),
+    (2, "k 2"),
+    (3, "k 3"),
+    (4, "k 4"),
+    (5, "k 5"),
+    (6, "k 6"),
+    (7, "k 7"),
+    (8, "k 8"),
+    (9, "k 9"),
+    (10, "k 10"),
+    (11, "k 11"),
+    (12, "k 12"),
+    (13, "k 13"),
+    (14, "k 14"),
+    (16, "k 16"),
+    (18, "k 18"),
+    (22, "k 22"),
+];
+
 pub struct Tally {
     name: &'static str,
     compared: u64,
     /// Calls by the number that was expected, 0 for success.
-    answered: [u64; 12],
+    answered: [u64; 13],
     /// Kinds of calls, each to be met at least once.
     kinds: Vec<(&'static str, u64)>,
     different: u64,
@@ -26,7 +47,7 @@ pub struct Tally {
 
 impl Tally {
     pub fn new(name: &'static str) -> Tally {
-        Tally { name, compared: 0, answered: [0; 12], kinds: vec![], different: 0, rows: 0 }
+        Tally { name, compared: 0, answered: [0; 13], kinds: vec![], different: 0, rows: 0 }
     }
 
     pub fn of_kinds(name: &'static str, kinds: &[&'static str]) -> Tally {

@@ -33,7 +33,7 @@ fn run() -> Builder {
 
 /// One of every command but the end.
 fn one_of_each() -> Builder {
-    run().input(1).output(2).op_stack(3).ram(4).jump_stack(5).ordered().clone()
+    run().height(6).input(1).output(2).op_stack(3).ram(4).jump_stack(5).ordered().clone()
 }
 
 #[test]
@@ -88,10 +88,33 @@ fn past_a_count() {
     }
 }
 
+/// Directly after 01, at most once: 9 before 10 before 12, as sent.
+#[test]
+fn heights_announced() {
+    for rows in 1..=32 {
+        for k in 0..=255 {
+            let right = (1..=22).contains(&k) && 1u64 << k >= rows as u64;
+            answers(new().rows(rows).height(k), if right { 8 } else { 12 });
+            answers(new().rows(rows).height(k).raw(&[UNKNOWN]), if right { 7 } else { 12 });
+            answers(new().rows(rows).height(k).height(k), if right { 9 } else { 12 });
+            answers(new().rows(rows).digest(&[0; 5]).height(k), 10);
+            answers(new().rows(rows).height(22).digest(&[0; 5]).height(k), 9);
+        }
+    }
+    answers(new().height(1), 9);
+    answers(new().height(0), 9);
+    answers(new().raw(&[11]), 8);
+    answers(new().rows(1).raw(&[11]), 8);
+    answers(new().rows(0).height(0), 3);
+    answers(run().height(0), 10);
+    answers(run().raw(&[11]), 8);
+    answers(run().end().height(1), 9);
+}
+
 #[test]
 fn commands_out_of_order() {
     let batch = one_of_each();
-    assert_eq!(batch.clone().end().commands.iter().map(|command| command[0]).collect::<Vec<u8>>(), [1, 7, 8, 9, 6, 2, 3, 4, 5, 0]);
+    assert_eq!(batch.clone().end().commands.iter().map(|command| command[0]).collect::<Vec<u8>>(), [1, 11, 7, 8, 9, 6, 2, 3, 4, 5, 0]);
     answers(batch.clone().end(), 0);
     for from in 1..batch.commands.len() {
         for to in from + 1..batch.commands.len() {
@@ -187,10 +210,11 @@ fn rows_in_montgomery_form() {
 fn ends() {
     answers(&run(), 8);
     answers(run().end(), 0);
-    for after in [0, 1, 9, 10, 255] {
+    for after in [0, 1, 9, 10, 11, 255] {
         answers(run().end().raw(&[after]), 9);
     }
     answers(new().rows(1).end(), 9);
+    answers(new().rows(1).height(1).end(), 9);
     for missing in 1..4 {
         let mut batch = run();
         batch.commands.remove(missing);
@@ -232,7 +256,12 @@ fn heights() {
         for _ in 0..rows {
             batch.row(&[0; 39]);
         }
-        assert_eq!(Batch::open(&batch.end().bytes()).unwrap().padded_height(), height);
+        let opened = Batch::open(&batch.end().bytes()).unwrap();
+        assert_eq!((opened.log2_height(), opened.padded_height()), (None, height));
+        for k in height.ilog2()..=22 {
+            let opened = Batch::open(&batch.clone().height(k as u8).ordered().bytes()).unwrap();
+            assert_eq!((opened.log2_height(), opened.padded_height()), (Some(k), 1 << k));
+        }
     }
 }
 
@@ -244,14 +273,17 @@ fn equality() {
     assert_ne!(one, open(run().input(2).output(1)));
     assert_ne!(one, open(run().input(1)));
     assert_ne!(open(run().ram(0)), open(run().op_stack(0)));
+    // the height that the trace would set
+    assert_ne!(open(run().height(1)), open(&mut run()));
+    assert_ne!(open(run().height(1)), open(run().height(2)));
 }
 
 /// The library's answer and the plain writer's in each form; nothing is written where it is not 0.
-fn writes(contents: [&[u64]; 8], length: usize, number: u32) -> [Vec<u8>; 2] {
+fn writes(contents: [&[u64]; 8], k: u64, length: usize, number: u32) -> [Vec<u8>; 2] {
     FORMS.map(|form| {
         let (mut ours, mut plainly) = (vec![0xa5; length], vec![0xa5; length]);
-        assert_eq!(abi::write(contents, form as u64, &mut ours), number);
-        assert_eq!(plain::batch::write(contents, form, &mut plainly), number);
+        assert_eq!(abi::write(contents, form as u64, k, &mut ours), number);
+        assert_eq!(plain::batch::write(contents, form, k, &mut plainly), number);
         assert_eq!(ours, plainly);
         assert!(number == 0 || ours == vec![0xa5; length]);
         ours
@@ -267,19 +299,22 @@ fn written() {
         // 8 and 9 in the form
         let [first, second] = if form == Form::Plain { [8, 9] } else { [34359738360, 38654705655] };
         let mut batch = new();
-        batch.rows(2).digest(&digest).input(2).input(1).output(3).output(9).output(3).sampled(&sampled);
+        batch.rows(2).height(9).digest(&digest).input(2).input(1).output(3).output(9).output(3).sampled(&sampled);
         batch.row_as_sent(form, &[first; 39]).row_as_sent(form, &[second; 39]);
         batch.op_stack(3).op_stack(3).op_stack(4).op_stack(5).ram(0).ram(P - 1).jump_stack(1);
         batch.end().bytes()
     });
-    let length = plain::batch::length(&contents);
-    assert_eq!(writes(contents, length, 0), batches);
+    let length = plain::batch::length(&contents, 9);
+    assert_eq!(writes(contents, 9, length, 0), batches);
+    let without = batches.each_ref().map(|bytes| [&bytes[..5], &bytes[7..]].concat());
+    assert_eq!(writes(contents, 0, length - 2, 0), without);
 
     let mut filled = Batch::new();
     filled.set_trace(&[MainRow([8; 39]), MainRow([9; 39])]).unwrap();
     filled.set_differences(ClkJumpDiffs { op_stack: &[3, 5, 4, 3], ram: &[P - 1, 0], jump_stack: &[1] }).unwrap();
     filled.set_sampled(&SampledChallenges([Element([6; 3]); 59]));
     filled.set_claim(Claim { program_digest: digest, input: &[2, 1], output: &[3, 9, 3] }).unwrap();
+    filled.set_log2_height(Some(9)).unwrap();
     for (form, bytes) in FORMS.into_iter().zip(batches) {
         let opened = Batch::open(&bytes).unwrap();
         assert_ne!(filled, opened);
@@ -291,7 +326,7 @@ fn written() {
     }
 }
 
-/// What is wrong comes first in the order 1, 3, 2.
+/// What is wrong comes first in the order 1, 3, 12, 2.
 #[test]
 fn not_written() {
     let words = vec![P; 41 * 39];
@@ -299,20 +334,26 @@ fn not_written() {
     let contents = |rows: usize| [&words[..rows * 39], list, list, list, &words[..177], &words[..5], io, io];
     for rows in [0, 1, 32, 33, 40] {
         let (contents, length) = (contents(rows), 1464 + 313 * rows + 9 * 512);
-        writes(contents, length, if (1..=32).contains(&rows) { 2 } else { 3 });
-        writes(contents, length - 1, 1);
-        writes(contents, length + 1, 1);
-        writes(contents, 0, 1);
+        writes(contents, 0, length, if (1..=32).contains(&rows) { 2 } else { 3 });
+        for k in [1, 4, 5, 22, 23, 64, 256 + 5, (1 << 32) + 5, u64::MAX] {
+            let right = k <= 22 && rows <= 1 << k;
+            writes(contents, k, length + 2, if !(1..=32).contains(&rows) { 3 } else if right { 2 } else { 12 });
+            writes(contents, k, length, 1);
+        }
+        writes(contents, 0, length - 1, 1);
+        writes(contents, 0, length + 1, 1);
+        writes(contents, 0, length + 2, 1);
+        writes(contents, 0, 0, 1);
         for (slice, by) in [(0, 0), (1, 9), (2, 9), (3, 9), (4, 0), (5, 0), (6, 9), (7, 9)] {
             let mut longer = contents;
             longer[slice] = &words[..contents[slice].len() + 1];
-            writes(longer, length, 1);
-            writes(longer, length + by, 1);
+            writes(longer, 0, length, 1);
+            writes(longer, 0, length + by, 1);
         }
         for slice in [4, 5] {
             let mut shorter = contents;
             shorter[slice] = &words[..contents[slice].len() - 1];
-            writes(shorter, length, 1);
+            writes(shorter, 0, length, 1);
         }
     }
     let zeros = vec![0; 39];
@@ -324,7 +365,7 @@ fn not_written() {
             let mut contents = least;
             let word = std::mem::replace(&mut bad[place], P);
             contents[slice] = &bad;
-            writes(contents, plain::batch::length(&contents), 2);
+            writes(contents, 0, plain::batch::length(&contents, 0), 2);
             bad[place] = word;
         }
     }

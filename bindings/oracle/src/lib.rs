@@ -174,6 +174,19 @@ pub fn extend(main: &[u64], challenges: &[u64]) -> Result<Vec<u64>, Panicked> {
     Ok(extension.words())
 }
 
+/// The last row's cells of the table of so many rows for what a batch brings: trace, op stack, RAM, jump stack, sampled, digest,
+/// input and output. 4 where fill panics, 6 where extension does.
+pub fn terminals(slices: [&[u64]; 8], height: usize) -> Result<[u64; 3 * AUX_WIDTH], u32> {
+    let [trace, op_stack, ram, jump_stack, sampled, digest, input, output] = slices;
+    let record = challenges(sampled, digest.try_into().expect("five words"), input, output).expect("59 elements");
+    let mut extension = Extension::blank(height, &record, Order::Rows);
+    let (trace, differences) = (Trace::new(trace), Differences::new([op_stack, ram, jump_stack]));
+    caught(|| extension.main.fill(&trace, differences)).map_err(|_| 4u32)?;
+    extension.main.pad(trace.rows());
+    caught(|| extension.run()).map_err(|_| 6u32)?;
+    Ok(extension.last_row())
+}
+
 /// Each map (a, b) becomes the one that applies those up to it: b is what it makes of 0, a + b what it makes of 1.
 pub fn scan_maps(items: &[u64]) -> Vec<u64> {
     let maps: Vec<_> = elements(items).chunks_exact(2).map(|map| (map[0], map[1])).collect();
@@ -213,6 +226,10 @@ pub struct Trace(AlgebraicExecutionTrace);
 impl Trace {
     pub fn new(words: &[u64]) -> Trace {
         Trace(AlgebraicExecutionTrace { processor_trace: Main::new(words, Order::Rows).0 })
+    }
+
+    pub fn rows(&self) -> usize {
+        self.0.processor_trace.nrows()
     }
 
     /// Its rows, in the words that the original keeps.
@@ -336,12 +353,24 @@ pub struct Extension {
 
 impl Extension {
     pub fn new(main: &[u64], challenges: &[u64], order: Order) -> Extension {
+        Extension { main: Main::new(main, order), ..Extension::blank(main.len() / MAIN_WIDTH, challenges, order) }
+    }
+
+    /// Over a main table of zeros.
+    pub fn blank(rows: usize, challenges: &[u64], order: Order) -> Extension {
         let challenges = elements(challenges).try_into().expect("63 challenges");
         Extension {
-            main: Main::new(main, order),
+            main: Main(order.zeros(rows, MAIN_WIDTH)),
             challenges: challenges::Challenges { challenges },
-            aux: order.zeros(main.len() / MAIN_WIDTH, AUX_WIDTH),
+            aux: order.zeros(rows, AUX_WIDTH),
         }
+    }
+
+    /// Fills, pads and extends; panics where the original does.
+    pub fn from_trace(&mut self, trace: &Trace, differences: Differences) {
+        self.main.fill(trace, differences);
+        self.main.pad(trace.rows());
+        self.run();
     }
 
     /// Extends; panics where the original does.
@@ -351,7 +380,16 @@ impl Extension {
 
     /// The auxiliary table, row by row.
     pub fn words(&self) -> Vec<u64> {
-        let rows = 0..self.aux.nrows();
-        rows.flat_map(|row| (0..AUX_WIDTH).flat_map(move |column| words(&[self.aux.view()[[row, column]]]))).collect()
+        (0..self.aux.nrows()).flat_map(|row| self.row(row)).collect()
+    }
+
+    /// The last row of it.
+    pub fn last_row(&self) -> [u64; 3 * AUX_WIDTH] {
+        self.row(self.aux.nrows() - 1)
+    }
+
+    fn row(&self, row: usize) -> [u64; 3 * AUX_WIDTH] {
+        let cells: [XFieldElement; AUX_WIDTH] = std::array::from_fn(|column| self.aux.view()[[row, column]]);
+        words(&cells).try_into().expect("three words an element")
     }
 }

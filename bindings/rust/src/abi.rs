@@ -121,9 +121,11 @@ mod raw {
             output: *const u64,
             len: usize,
             form: u64,
+            k: u64,
             bytes: *mut u8,
             bl: usize,
         ) -> u32;
+        pub fn tealbobbin_terminals(bytes: *const u8, bl: usize, cells: *mut u64, len: usize) -> u32;
     }
 }
 
@@ -338,7 +340,7 @@ pub fn pad(table: &mut [u64], table_len: usize) -> u32 {
 }
 
 /// A batch into the slices: trace, op stack, RAM, jump stack, sampled, digest, input, output. Into `counts` go those of rows, op
-/// stack, RAM, jump stack, input, output.
+/// stack, RAM, jump stack, input, output, and k, where the batch sets 2^k rows, or 0.
 #[must_use]
 pub fn open(bytes: &[u8], slices: [&mut [u64]; 8], counts: &mut [u64]) -> u32 {
     let [trace, op_stack, ram, jump_stack, sampled, digest, input, output] = slices;
@@ -369,9 +371,9 @@ pub fn open(bytes: &[u8], slices: [&mut [u64]; 8], counts: &mut [u64]) -> u32 {
 }
 
 /// The batch with these slices' contents into `bytes`: trace, op stack, RAM, jump stack, sampled, digest, input, output. Its rows are
-/// plain if `form` is 0, and otherwise in Montgomery form.
+/// plain if `form` is 0, and otherwise in Montgomery form; it sets 2^k rows unless `k` is 0.
 #[must_use]
-pub fn write(slices: [&[u64]; 8], form: u64, bytes: &mut [u8]) -> u32 {
+pub fn write(slices: [&[u64]; 8], form: u64, k: u64, bytes: &mut [u8]) -> u32 {
     let [trace, op_stack, ram, jump_stack, sampled, digest, input, output] = slices;
     unsafe {
         raw::tealbobbin_write(
@@ -392,8 +394,15 @@ pub fn write(slices: [&[u64]; 8], form: u64, bytes: &mut [u8]) -> u32 {
             output.as_ptr(),
             output.len(),
             form,
+            k,
             bytes.as_mut_ptr(),
             bytes.len(),
         )
     }
+}
+
+/// The last row's cells of the table that a batch leads to into `cells`.
+#[must_use]
+pub fn terminals(bytes: &[u8], cells: &mut [u64]) -> u32 {
+    unsafe { raw::tealbobbin_terminals(bytes.as_ptr(), bytes.len(), cells.as_mut_ptr(), cells.len()) }
 }

@@ -32,6 +32,9 @@
 //! }
 //! # Ok::<(), tealbobbin::Refusal>(())
 //! ```
+//!
+//! A proof pads every table to the height of the tallest. Where that is another than this one, the batch says so, and [`terminals`]
+//! gives the cells of the last row at that height.
 
 use core::fmt::{Debug, Formatter, Result as Written};
 use core::slice::{from_mut, from_ref};
@@ -39,7 +42,7 @@ use core::slice::{from_mut, from_ref};
 use crate::abi::{self, words, words_mut};
 use crate::challenges::{Challenges, Claim, Digest, SampledChallenges};
 use crate::field::Element;
-use crate::processor::{ClkJumpDiffs, MainRow, MAIN_WIDTH};
+use crate::processor::{AuxRow, ClkJumpDiffs, MainRow, MAIN_WIDTH, MAX_ROWS};
 use crate::{answer, Refusal};
 
 /// The most bytes of a batch.
@@ -53,6 +56,11 @@ pub const MAX_DIFFERENCES: usize = 128;
 
 /// The most words of a batch's input, and of its output.
 pub const MAX_IO_WORDS: usize = 64;
+
+/// The most that k may be where a batch sets 2^k rows: these are [`MAX_ROWS`].
+pub const MAX_LOG2_HEIGHT: u32 = 22;
+
+const _: () = assert!(1 << MAX_LOG2_HEIGHT == MAX_ROWS);
 
 /// The form of the words in a batch's rows. It is no part of what the batch brings: opened, all words are plain.
 #[derive(Debug, Clone, Copy, Default, PartialEq, Eq, Hash)]
@@ -75,12 +83,12 @@ pub struct Batch {
     program_digest: Digest,
     input: [u64; MAX_IO_WORDS],
     output: [u64; MAX_IO_WORDS],
-    /// Of trace, op stack, RAM, jump stack, input and output: how much was brought.
-    counts: [u64; 6],
+    /// Of trace, op stack, RAM, jump stack, input and output: how much was brought. Then k, or 0 for none.
+    counts: [u64; 7],
 }
 
 impl Batch {
-    /// No rows, differences, input and output; challenges and digest of zeros.
+    /// No rows, differences, input and output; challenges and digest of zeros; the height that the trace sets.
     pub const fn new() -> Batch {
         Batch {
             trace: [MainRow::ZERO; MAX_TRACE_ROWS],
@@ -91,7 +99,7 @@ impl Batch {
             program_digest: [0; 5],
             input: [0; MAX_IO_WORDS],
             output: [0; MAX_IO_WORDS],
-            counts: [0; 6],
+            counts: [0; 7],
         }
     }
 
@@ -100,8 +108,8 @@ impl Batch {
     /// # Errors
     ///
     /// [`Refusal::SliceLength`] if it has more bytes; then, at the first command with a fault, [`Refusal::UnknownCommand`],
-    /// [`Refusal::BatchCutOff`], [`Refusal::CommandOutOfPlace`], [`Refusal::CommandOutOfOrder`], [`Refusal::RowCount`] or
-    /// [`Refusal::WordNotBelowP`], in this order.
+    /// [`Refusal::BatchCutOff`], [`Refusal::CommandOutOfPlace`], [`Refusal::CommandOutOfOrder`], [`Refusal::RowCount`],
+    /// [`Refusal::HeightOutOfRange`] or [`Refusal::WordNotBelowP`], in this order.
     pub fn open(bytes: &[u8]) -> Result<Batch, Refusal> {
         let mut batch = Batch::new();
         let slices = [
@@ -165,16 +173,30 @@ impl Batch {
         self.program_digest = program_digest;
         self.input[..input.len()].copy_from_slice(input);
         self.output[..output.len()].copy_from_slice(output);
-        self.counts[4..].copy_from_slice(&[input, output].map(|words| words.len() as u64));
+        self.counts[4..6].copy_from_slice(&[input, output].map(|words| words.len() as u64));
+        Ok(self)
+    }
+
+    /// The table is to have 2^k rows, or, with `None`, the height that the trace sets.
+    ///
+    /// # Errors
+    ///
+    /// [`Refusal::HeightOutOfRange`] if k is 0 or over [`MAX_LOG2_HEIGHT`]. That 2^k rows hold the trace is asked by [`Batch::write`].
+    pub fn set_log2_height(&mut self, k: Option<u32>) -> Result<&mut Batch, Refusal> {
+        self.counts[6] = match k {
+            None => 0,
+            Some(k @ 1..=MAX_LOG2_HEIGHT) => k.into(),
+            Some(_) => return Err(Refusal::HeightOutOfRange),
+        };
         Ok(self)
     }
 
     /// The bytes that [`Batch::write`] writes, at most [`MAX_BYTES`].
     pub fn written_len(&self) -> usize {
-        let [rows, words @ ..] = self.counts;
-        let (row, word) = (1 + 8 * MAIN_WIDTH, 1 + 8);
+        let [rows, words @ .., _] = self.counts;
+        let (row, word, height) = (1 + 8 * MAIN_WIDTH, 1 + 8, self.log2_height().map_or(0, |_| 1 + 1));
         let others = (1 + 4) + (1 + 8 * self.program_digest.len()) + (1 + 8 * SampledChallenges::WORDS) + 1;
-        others + row * rows as usize + word * words.iter().sum::<u64>() as usize
+        others + height + row * rows as usize + word * words.iter().sum::<u64>() as usize
     }
 
     /// Writes the batch into [`written_len`](Batch::written_len) bytes, its rows in this form, the differences sorted. Batches with
@@ -183,7 +205,7 @@ impl Batch {
     /// # Errors
     ///
     /// [`Refusal::SliceLength`] at another number of bytes, then [`Refusal::RowCount`] if there is no row, then
-    /// [`Refusal::WordNotBelowP`].
+    /// [`Refusal::HeightOutOfRange`] if the height that was set is below the rows, then [`Refusal::WordNotBelowP`].
     pub fn write(&self, form: Form, bytes: &mut [u8]) -> Result<(), Refusal> {
         let (ClkJumpDiffs { op_stack, ram, jump_stack }, claim) = (self.differences(), self.claim());
         let slices = [
@@ -196,7 +218,7 @@ impl Batch {
             claim.input,
             claim.output,
         ];
-        answer(abi::write(slices, form as u64, bytes), ())
+        answer(abi::write(slices, form as u64, self.counts[6], bytes), ())
     }
 
     /// The trace.
@@ -227,10 +249,50 @@ impl Batch {
         }
     }
 
-    /// The rows of the main table: the smallest power of two that holds the trace, at least 2.
-    pub fn padded_height(&self) -> usize {
-        self.trace().len().next_power_of_two().max(2)
+    /// k, if the table is to have 2^k rows; `None` if the trace sets its height.
+    pub fn log2_height(&self) -> Option<u32> {
+        (self.counts[6] > 0).then_some(self.counts[6] as u32)
     }
+
+    /// The rows of the main table: 2^k where [`log2_height`](Batch::log2_height) has k, and otherwise the smallest power of two that
+    /// holds the trace, at least 2. [`terminals`] needs no table of this height.
+    pub fn padded_height(&self) -> usize {
+        self.log2_height().map_or(self.trace().len().next_power_of_two().max(2), |k| 1 << k)
+    }
+}
+
+/// The cells of the last row of the table that a batch leads to: those that [`extend`](crate::processor::extend) writes there, once
+/// the table is filled and padded to [`padded_height`](Batch::padded_height). It keeps no table: its memory is the same at every
+/// height, and its time grows with that.
+///
+/// ```
+/// use tealbobbin::air::ProcessorAuxColumn::ClockJumpDifferenceLookupServerLogDerivative;
+/// use tealbobbin::batch::{terminals, Batch, Form};
+/// use tealbobbin::field::Element;
+///
+/// # std::env::set_current_dir(concat!(env!("CARGO_MANIFEST_DIR"), "/../.."))?;
+/// let mut batch = Batch::open(&std::fs::read("examples/document-01.batch")?)?;
+/// assert_eq!((batch.log2_height(), batch.padded_height()), (None, 2));
+///
+/// // another table is the tallest, and has four million rows
+/// batch.set_log2_height(Some(22))?;
+/// assert_eq!(batch.padded_height(), 4_194_304);
+/// let mut bytes = vec![0; batch.written_len()];
+/// batch.write(Form::Plain, &mut bytes)?;
+///
+/// let last = terminals(&bytes)?;
+/// assert_eq!(last[ClockJumpDifferenceLookupServerLogDerivative], Element::from(4_194_303));
+/// # Ok::<(), Box<dyn std::error::Error>>(())
+/// ```
+///
+/// # Errors
+///
+/// Those of [`Batch::open`], then [`Refusal::DifferenceTooLarge`] if a difference is not below the number of trace rows, then
+/// [`Refusal::ZeroDenominator`] if an entry of a lookup column, padding rows among them, has denominator zero.
+pub fn terminals(bytes: &[u8]) -> Result<AuxRow, Refusal> {
+    let mut last = AuxRow::ZERO;
+    let number = abi::terminals(bytes, words_mut(from_mut(&mut last)));
+    answer(number, last)
 }
 
 impl Default for Batch {
@@ -246,6 +308,7 @@ impl PartialEq for Batch {
             && self.differences() == other.differences()
             && self.sampled() == other.sampled()
             && self.claim() == other.claim()
+            && self.log2_height() == other.log2_height()
     }
 }
 
@@ -258,6 +321,7 @@ impl Debug for Batch {
             .field("differences", &self.differences())
             .field("sampled", self.sampled())
             .field("claim", &self.claim())
+            .field("log2_height", &self.log2_height())
             .finish()
     }
 }
@@ -265,6 +329,7 @@ impl Debug for Batch {
 #[cfg(test)]
 mod tests {
     use super::*;
+    use crate::air::ProcessorAuxColumn::ClockJumpDifferenceLookupServerLogDerivative;
     use crate::field::P;
 
     const CLAIM: Claim<'_> = Claim { program_digest: [0; 5], input: &[], output: &[] };
@@ -343,6 +408,72 @@ mod tests {
         batch.set_differences(ClkJumpDiffs::default()).unwrap();
         assert_eq!(batch.write(Form::default(), &mut bytes), Ok(()));
         assert_eq!(Batch::open(&bytes).unwrap().claim(), Claim { output: &[4], ..CLAIM });
+    }
+
+    /// Every k, with every number of rows.
+    #[test]
+    fn heights() {
+        let mut batch = Batch::new();
+        for rows in 1..=MAX_TRACE_ROWS {
+            batch.set_trace(&[MainRow::ZERO; MAX_TRACE_ROWS][..rows]).unwrap().set_log2_height(None).unwrap();
+            let without = batch.clone();
+            let (length, height) = (batch.written_len(), batch.padded_height());
+            assert_eq!((batch.log2_height(), height.is_power_of_two(), height >= rows), (None, true, true));
+            for k in 1..=MAX_LOG2_HEIGHT {
+                batch.set_log2_height(Some(k)).unwrap();
+                assert_eq!((batch.log2_height(), batch.padded_height(), batch.written_len()), (Some(k), 1 << k, length + 2));
+                for form in FORMS {
+                    let mut room = [0; 16_090];
+                    let bytes = &mut room[..length + 2];
+                    if 1 << k < rows {
+                        assert_eq!(batch.write(form, bytes), Err(Refusal::HeightOutOfRange));
+                        assert_eq!(*bytes, [0; 16_090][..length + 2]);
+                        continue;
+                    }
+                    assert_eq!(batch.write(form, bytes), Ok(()));
+                    assert_eq!(bytes[..7], [1, rows as u8, 0, 0, 0, 11, k as u8]);
+                    let opened = Batch::open(bytes).unwrap();
+                    assert_eq!(opened, batch);
+                    assert_ne!(opened, without);
+                    for wrong in [0, MAX_LOG2_HEIGHT as u8 + 1, 255] {
+                        bytes[6] = wrong;
+                        assert_eq!(Batch::open(bytes), Err(Refusal::HeightOutOfRange));
+                    }
+                }
+            }
+        }
+        for k in [0, MAX_LOG2_HEIGHT + 1, 256 + 1, u32::MAX] {
+            assert_eq!(batch.set_log2_height(Some(k)).err(), Some(Refusal::HeightOutOfRange));
+            assert_eq!(batch.log2_height(), Some(MAX_LOG2_HEIGHT));
+        }
+    }
+
+    /// The height that the trace would set anyway leads to the same cells, by other bytes.
+    #[test]
+    fn cells() {
+        let example = include_bytes!("../../../examples/document-01.batch");
+        let due = AuxRow([1, 1, 9223372034707292161, 1, 1, 0, 1, 1, 1, 0, 1].map(Element::from));
+        assert_eq!(terminals(example), Ok(due));
+        let mut batch = Batch::open(example).unwrap();
+        let mut bytes = [0; 1779 + 9];
+        for k in 1..=10 {
+            batch.set_log2_height(Some(k)).unwrap().write(Form::Plain, &mut bytes[..1779]).unwrap();
+            let mut due = due;
+            due[ClockJumpDifferenceLookupServerLogDerivative] = Element::from((1 << k) - 1);
+            assert_eq!(terminals(&bytes[..1779]), Ok(due));
+        }
+        assert_eq!(terminals(&bytes[..1778]), Err(Refusal::BatchCutOff));
+        assert_eq!(terminals(&[0; MAX_BYTES + 1]), Err(Refusal::SliceLength));
+        batch.set_differences(ClkJumpDiffs { ram: &[1], ..ClkJumpDiffs::default() }).unwrap();
+        batch.write(Form::Plain, &mut bytes).unwrap();
+        assert_eq!(terminals(&bytes), Err(Refusal::DifferenceTooLarge));
+        // the clock's indeterminate is row 1's CLK, and row 1 is padding
+        batch.set_differences(ClkJumpDiffs::default()).unwrap();
+        batch
+            .set_sampled(&SampledChallenges([Element::ONE; Challenges::SAMPLE_COUNT]))
+            .write(Form::Plain, &mut bytes[..1779])
+            .unwrap();
+        assert_eq!(terminals(&bytes[..1779]), Err(Refusal::ZeroDenominator));
     }
 
     #[test]

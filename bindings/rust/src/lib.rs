@@ -33,6 +33,7 @@
 //! }
 //! ```
 //!
+//! [`batch::terminals`] does all of this in one call and without a table, which is millions of rows high where a batch says so.
 //! [`processor`] has an example of rows built by hand, [`batch`] one of a batch that is filled, written and opened again in both
 //! forms of rows, [`field::Montgomery`] one of arithmetic in the prover's form, and [`isa`] says why a row does not decode.
 //!

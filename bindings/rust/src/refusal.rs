@@ -3,7 +3,7 @@
 use core::error::Error;
 use core::fmt::{Display, Formatter, Result as Written};
 
-use crate::batch::{MAX_BYTES, MAX_DIFFERENCES, MAX_IO_WORDS, MAX_TRACE_ROWS};
+use crate::batch::{MAX_BYTES, MAX_DIFFERENCES, MAX_IO_WORDS, MAX_LOG2_HEIGHT, MAX_TRACE_ROWS};
 use crate::field::P;
 use crate::processor::{MAX_ROWS, WORK_WIDTH};
 
@@ -72,20 +72,23 @@ refusals! {
     ZeroDenominator = 6, "a denominator is zero, or what is to be inverted (where extension refuses, a challenge equals an entry of \
         a lookup column: sample the challenges again)";
     /// 7: a byte of a batch is no command.
-    UnknownCommand = 7, "a byte of the batch is no command (commands are 00 to 0A; the operand before it may have another width than \
+    UnknownCommand = 7, "a byte of the batch is no command (commands are 00 to 0B; the operand before it may have another width than \
         its command asks)";
     /// 8: a batch ends too early.
     BatchCutOff = 8, "the batch ends inside an operand or before its end, 00 (compare its length with what was sent)";
     /// 9: a batch has a command out of place or too often, or lacks one.
     CommandOutOfPlace = 9, "the batch has a command out of place or too often, or lacks one (01 first and once, 06 and 07 once each, \
-        02 or 0A, the same throughout, as often as 01 says, 03 to 05 at most {MAX_DIFFERENCES} times each, 08 and 09 at most \
+        0B at most once, 02 or 0A, the same throughout, as often as 01 says, 03 to 05 at most {MAX_DIFFERENCES} times each, 08 and 09 at most \
         {MAX_IO_WORDS} times each, 00 last)";
     /// 10: a batch has a command behind one that belongs after it, or a difference below the one before it.
     CommandOutOfOrder = 10, "the batch has a command behind one that belongs after it, or a difference below the one before it (the \
-        order is 01, 07, all 08, all 09, 06, all rows, all 03, all 04, all 05, 00, each list of differences not descending)";
+        order is 01, 0B, 07, all 08, all 09, 06, all rows, all 03, all 04, all 05, 00, each list of differences not descending)";
     /// 11: a row does not decode; of [`extend_strict`](crate::processor::extend_strict) alone.
     UndecodableRow = 11, "a row of the main table does not decode (isa::decode says of each row what it decodes to, or why not; \
         processor::extend takes such rows)";
+    /// 12: a batch's height is out of range, or holds fewer rows than the trace has.
+    HeightOutOfRange = 12, "the height of a batch is out of range (its table has 2^k rows, k from 1 to {MAX_LOG2_HEIGHT}, and at least \
+        its trace's)";
 }
 
 impl Error for Refusal {}
@@ -112,7 +115,7 @@ mod tests {
         for number in (1..=20).chain([u32::MAX]) {
             let refusal = Refusal::from_number(number).unwrap();
             assert_eq!(refusal.number(), number);
-            assert_eq!(matches!(refusal, Refusal::Other { .. }), number > 11);
+            assert_eq!(matches!(refusal, Refusal::Other { .. }), number > 12);
             assert!(refusal.to_string().starts_with(&std::format!("refused {number}: ")));
         }
     }

@@ -90,6 +90,20 @@ fn batch_page_shows_a_batch() {
         assert_eq!(Batch::open(&mixed), Err(Refusal::CommandOutOfPlace));
     }
 
+    // at 2^18 rows
+    let high = |k: u8, at: usize| [&shown[..at], &[11, k], &shown[at..]].concat();
+    let mut written = vec![0; 2155];
+    batch.set_log2_height(Some(18)).unwrap().write(Form::Plain, &mut written).unwrap();
+    assert_eq!(high(18, 5), written);
+    for k in [0, 23] {
+        assert_eq!(Batch::open(&high(k, 5)), Err(Refusal::HeightOutOfRange));
+    }
+    for place in [46, 55, 64, 73, 1490, 1803, 2116, 2125, 2134, 2143, 2152] {
+        assert_eq!(Batch::open(&high(18, place)), Err(Refusal::CommandOutOfOrder));
+        let twice = [&written[..place + 2], &written[5..7], &written[place + 2..]].concat();
+        assert_eq!(Batch::open(&twice), Err(Refusal::CommandOutOfPlace));
+    }
+
     let exchanged = [&shown[..2116], &shown[2125..2134], &shown[2116..2125], &shown[2134..]].concat();
     assert_eq!(Batch::open(&exchanged), Err(Refusal::CommandOutOfOrder));
     let exchanged = [&shown[..5], &shown[73..1490], &shown[46..73], &shown[5..46], &shown[1490..]].concat();

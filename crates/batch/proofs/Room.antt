@@ -1,5 +1,5 @@
 -- What a batch brings fits into the slices that are lent for it.
-use mathlib.Core.Path.{_≡_, refl}
+use mathlib.Core.Path.{_≡_, refl, sym, ap}
 use mathlib.Core.Bool.{true, _&&_}
 use mathlib.Core.List.{List}
 use Prim.Native.Nat.{ℕ, _≤_}
@@ -11,8 +11,9 @@ use Rattle.field_base.proofs.Below.{and-true}
 use Rattle.batch_reader.specs.declared.Counts.{Counts}
 use Rattle.batch_reader.specs.declared.OpenAnswer.the-variants.{Opened}
 use Rattle.batch_commands.specs.Format.{ROW, OP-STACK, RAM, JUMP-STACK, SAMPLED, DIGEST, INPUT, OUTPUT}
+use Rattle.batch_reader.specs.Commands.{counts, heightOf}
 use Rattle.batch_reader.specs.Reading.{Reading, read, refused, reading, commandsOf}
-use Rattle.batch_reader.specs.Answers.{answerOf, brought}
+use Rattle.batch_reader.specs.Answers.{countsIn, answerOf, brought}
 use Rattle.batch.specs.Open.{rightLengths}
 use Rattle.batch_reader.proofs.Commands.{length-contents}
 use Rattle.batch_reader.proofs.Bounds.{bounded}
@@ -24,6 +25,14 @@ read-by (refused refusal) counts e = cc
 
 pub is-read : (batch : List ℕ) (counts : Counts) → answerOf (reading batch) ≡ Opened counts → reading batch ≡ read (commandsOf (reading batch))
 is-read batch counts e = read-by (reading batch) counts e
+
+height-by : (r : Reading) (came : Counts) → answerOf r ≡ Opened came → came .«log2_height» ≡ heightOf (commandsOf r)
+height-by (read ks) came e = let same : countsIn (counts ks) (heightOf ks) ≡ came = cc in ap (λ c. c .«log2_height») (sym same)
+height-by (refused refusal) came e = let z : _≡_ {A = ℕ} 0 1 = cc in absurd (omega arith)
+
+-- the seventh count is the k of the commands
+pub height-is : (batch : List ℕ) (came : Counts) → answerOf (reading batch) ≡ Opened came → came .«log2_height» ≡ heightOf (commandsOf (reading batch))
+height-is batch came e = height-by (reading batch) came e
 
 pub record Room (batch : List ℕ) (trace op-stack ram jump-stack sampled digest input output : ℕ) : Type 0 where
   pub for-trace : length (brought ROW batch) ≤ trace

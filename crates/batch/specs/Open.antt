@@ -14,13 +14,13 @@ use Rattle.batch_reader.specs.declared.OpenAnswer.the-variants.{Opened, Refused
 use Rattle.batch_reader.specs.Reading.{reading}
 use Rattle.batch_reader.specs.Answers.{answerOf, brought, written}
 
--- the paper's number and its six counts: 0 for a batch that was opened
+-- the paper's number and its seven counts: 0 for a batch that was opened
 abbrev pub openNumber : OpenAnswer → ℕ
 openNumber (Opened counts) = 0
 openNumber (Refused refusal) = numberOf refusal
 
 abbrev pub openCounts : OpenAnswer → List ℕ
-openCounts (Opened counts) = counts .rows ∷ counts .«op_stack» ∷ counts .ram ∷ counts .«jump_stack» ∷ counts .input ∷ counts .output ∷ []
+openCounts (Opened counts) = counts .rows ∷ counts .«op_stack» ∷ counts .ram ∷ counts .«jump_stack» ∷ counts .input ∷ counts .output ∷ counts .«log2_height» ∷ []
 openCounts (Refused refusal) = []
 
 abbrev pub MAX-BYTES : ℕ

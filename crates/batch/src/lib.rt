@@ -6,6 +6,8 @@ use batch_reader::unchecked::put_section;
 use field_montgomery::Form;
 use refusal::Refusal;
 ghost use mathlib.Core.Path.{_≡_};
+ghost use mathlib.Core.Bool.{cond};
+ghost use lib.Dec.{eqb};
 ghost use lib.ListN.{length};
 ghost use Rattle.batch_commands.specs.Format.{ROW, OP-STACK, RAM, JUMP-STACK, SAMPLED, DIGEST, INPUT, OUTPUT};
 ghost use Rattle.batch.specs.Open.{rightLengths, openAnswer, openSlice};
@@ -13,8 +15,21 @@ ghost use Rattle.batch.specs.Open.{rightLengths, openAnswer, openSlice};
 // Longer batches are turned away unread.
 pub const MAX_LEN: usize = 16384;
 
-// Where 01 ends.
+// Where 01 ends, and where 0B does.
 const BEHIND_ROWS: usize = 5;
+
+const BEHIND_HEIGHT: usize = 7;
+
+// Where 07 stands.
+fn digest_at(log2_height: usize) -> usize
+    ensures { λ r. ⌜ r ≡ cond (eqb «log2_height» 0) 5 7 ⌝ }
+{
+    if log2_height == 0 {
+        BEHIND_ROWS
+    } else {
+        BEHIND_HEIGHT
+    }
+}
 
 fn right_lengths(
     trace: usize,
@@ -97,7 +112,7 @@ pub fn open(
         OpenAnswer::Opened(counts) => {
             let at = put_section(
                 batch,
-                BEHIND_ROWS,
+                digest_at(counts.log2_height),
                 batch_commands::DIGEST,
                 Form::Plain,
                 digest,

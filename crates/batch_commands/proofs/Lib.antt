@@ -2,3 +2,4 @@
 pub mod Tables
 pub mod Heads
 pub mod Laid
+pub mod Heights

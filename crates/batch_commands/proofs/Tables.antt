@@ -37,14 +37,17 @@ arm f e = ap f (sym e)
 up : (k code : ℕ) → k ≤ code → (code ≡ k → ⊥) → suc k ≤ code
 up k code l n = omega arith
 
+below : (code : ℕ) → 10 ≤ code → code < COMMANDS → (code ≡ 11 → ⊥) → code ≡ 10
+below code u l other = omega arith
+
 abbrev Others : ℕ → Type 0
-Others code = (((((((((Unit × (code ≡ 0 → ⊥)) × (code ≡ 1 → ⊥)) × (code ≡ 2 → ⊥)) × (code ≡ 3 → ⊥)) × (code ≡ 4 → ⊥)) × (code ≡ 5 → ⊥)) × (code ≡ 6 → ⊥)) × (code ≡ 7 → ⊥)) × (code ≡ 8 → ⊥)) × (code ≡ 9 → ⊥)
+Others code = ((((((((((Unit × (code ≡ 0 → ⊥)) × (code ≡ 1 → ⊥)) × (code ≡ 2 → ⊥)) × (code ≡ 3 → ⊥)) × (code ≡ 4 → ⊥)) × (code ≡ 5 → ⊥)) × (code ≡ 6 → ⊥)) × (code ≡ 7 → ⊥)) × (code ≡ 8 → ⊥)) × (code ≡ 9 → ⊥)) × (code ≡ 11 → ⊥)
 
 pub last : (code : ℕ) → code < COMMANDS → Others code → code ≡ 10
 last code l n =
     let u = up 9 code (up 8 code (up 7 code (up 6 code (up 5 code (up 4 code (up 3 code (up 2 code (up 1 code (up 0 code (omega arith)
-    (n .0 .0 .0 .0 .0 .0 .0 .0 .0 .1)) (n .0 .0 .0 .0 .0 .0 .0 .0 .1)) (n .0 .0 .0 .0 .0 .0 .0 .1)) (n .0 .0 .0 .0 .0 .0 .1)) (n .0 .0 .0 .0 .0 .1)) (n .0 .0 .0 .0 .1)) (n .0 .0 .0 .1)) (n .0 .0 .1)) (n .0 .1)) (n .1) in
-    omega arith
+    (n .0 .0 .0 .0 .0 .0 .0 .0 .0 .0 .1)) (n .0 .0 .0 .0 .0 .0 .0 .0 .0 .1)) (n .0 .0 .0 .0 .0 .0 .0 .0 .1)) (n .0 .0 .0 .0 .0 .0 .0 .1)) (n .0 .0 .0 .0 .0 .0 .1)) (n .0 .0 .0 .0 .0 .1)) (n .0 .0 .0 .0 .1)) (n .0 .0 .0 .1)) (n .0 .0 .1)) (n .0 .1) in
+    below code u l (n .1)
 
 -- P of each of n numbers from a on
 abbrev pub Each : (ℕ → Type 0) → ℕ → ℕ → Type 0
@@ -75,7 +78,7 @@ of-test test e = of-each (λ code. test code ≡ true) (each-tested test 0 COMMA
 
 -- the command at a rank; of the rows' two, 02
 abbrev atRank : ℕ → ℕ
-atRank r = getD (1 ∷ 7 ∷ 8 ∷ 9 ∷ 6 ∷ 2 ∷ 3 ∷ 4 ∷ 5 ∷ 0 ∷ []) r 0
+atRank r = getD (1 ∷ 11 ∷ 7 ∷ 8 ∷ 9 ∷ 6 ∷ 2 ∷ 3 ∷ 4 ∷ 5 ∷ 0 ∷ []) r 0
 
 abbrev firstOf : ℕ → ℕ
 firstOf code = cond (eqb code MONTGOMERY-ROW) ROW code

@@ -1,25 +1,25 @@
 -- What is wrong with a command after the commands that were seen, and what stands at a place.
 use mathlib.Core.Bool.{Bool, cond, not, _&&_, _||_}
 use mathlib.Core.List.{List, [], _∷_}
-use Prim.Native.Nat.{ℕ, _-_}
+use Prim.Native.Nat.{ℕ, _-_, _^_}
 use lib.Dec.{eqb, leb, ltb}
 use lib.ListN.{length, take, getD}
 use Rattle.field_base.specs.Words.{allBelow}
 use Rattle.refusal.specs.declared.Answer.{Answer}
 use Rattle.refusal.specs.declared.Answer.the-variants.{Done, Refused}
-use Rattle.refusal.specs.declared.Refusal.the-variants.{UnknownCommand, BatchCutOff, CommandOutOfPlace, CommandOutOfOrder, RowCount, WordNotBelowP}
+use Rattle.refusal.specs.declared.Refusal.the-variants.{UnknownCommand, BatchCutOff, CommandOutOfPlace, CommandOutOfOrder, RowCount, HeightOutOfRange, WordNotBelowP}
 use Rattle.batch_commands.specs.declared.Seen.{Seen}
 use Rattle.batch_commands.specs.declared.Head.{Head}
 use Rattle.batch_commands.specs.declared.Head.the-variants.{Unknown, CutOff, Whole}
 use Rattle.batch_words.specs.Words.{number, words}
 use Rattle.field_montgomery.specs.declared.Form.{Form}
 use Rattle.field_montgomery.specs.declared.Form.the-variants.{Plain, Montgomery}
-use Rattle.batch_commands.specs.Format.{END, TRACE-ROWS, ROW, SAMPLED, DIGEST, MONTGOMERY-ROW, COMMANDS, width, wordsIn, rank, key, MAX-ROWS, MAX-DIFFERENCES, MAX-WORDS}
+use Rattle.batch_commands.specs.Format.{END, TRACE-ROWS, ROW, SAMPLED, DIGEST, MONTGOMERY-ROW, HEIGHT, COMMANDS, width, wordsIn, rank, key, MAX-ROWS, MAX-DIFFERENCES, MAX-WORDS, MAX-LOG-2-HEIGHT}
 use Rattle.batch_commands.specs.Form.{rowCommand}
 
--- how often a command may stand: "06 and 07 once each", 01 too, and as many rows as 01 announced
+-- how often a command may stand: "06 and 07 once each", 01 too, 0B "at most once", and as many rows as 01 announced
 abbrev pub limit : ℕ → ℕ → ℕ
-limit rows code = getD (1 ∷ 1 ∷ rows ∷ MAX-DIFFERENCES ∷ MAX-DIFFERENCES ∷ MAX-DIFFERENCES ∷ 1 ∷ 1 ∷ MAX-WORDS ∷ MAX-WORDS ∷ rows ∷ []) code 0
+limit rows code = getD (1 ∷ 1 ∷ rows ∷ MAX-DIFFERENCES ∷ MAX-DIFFERENCES ∷ MAX-DIFFERENCES ∷ 1 ∷ 1 ∷ MAX-WORDS ∷ MAX-WORDS ∷ rows ∷ 1 ∷ []) code 0
 
 -- the form of the rows that came, and how many they are, where `came` says how often each command came, by its byte
 abbrev pub formIn : List ℕ → Form
@@ -48,20 +48,29 @@ outOfPlace rows came code left =
 abbrev pub wrongRowCount : ℕ → List ℕ → Bool
 wrongRowCount code operand = eqb code TRACE-ROWS && not (leb 1 (number operand) && leb (number operand) MAX-ROWS)
 
+-- Document 02, Five: "12 if k is outside its range or 2^k is below the trace rows"
+abbrev pub wrongHeight : ℕ → ℕ → Bool
+wrongHeight rows k = not (leb 1 k && leb k MAX-LOG-2-HEIGHT) || ltb (2 ^ k) rows
+
+-- 0B with such a k
+abbrev pub heightOutOfRange : ℕ → ℕ → List ℕ → Bool
+heightOutOfRange rows code operand = eqb code HEIGHT && wrongHeight rows (number operand)
+
 -- Document 02, One: "a command within its count that follows one belonging behind it, or a difference below the one before it in its list".
 -- `seen` has the highest rank so far; a command of that rank follows the one before it in its list, whose key is the last seen.
 abbrev pub outOfOrder : Seen → ℕ → List ℕ → Bool
 outOfOrder seen code operand = ltb (rank code) (seen .rank) || (eqb (rank code) (seen .rank) && ltb (key code operand) (seen .key))
 
--- "9 (also past a count), 3, 2", and 10 "after 9 and before 3", where `bytes` begins with the operand
+-- "9 (also past a count), 3, 2", 10 "after 9 and before 3", and 12 "in the place of 3", where `bytes` begins with the operand
 unfoldable pub judged : Seen → ℕ → List ℕ → Answer
 unfolding number words allBelow key
 judged seen code bytes =
     cond (outOfPlace (seen .rows) (seen .came) code (length bytes - width code)) (Refused CommandOutOfPlace)
     (cond (outOfOrder seen code bytes) (Refused CommandOutOfOrder)
     (cond (wrongRowCount code (take (width code) bytes)) (Refused RowCount)
+    (cond (heightOutOfRange (seen .rows) code (take (width code) bytes)) (Refused HeightOutOfRange)
     (cond (not (allBelow (wordsIn code bytes))) (Refused WordNotBelowP)
-    Done)))
+    Done))))
 
 -- "left to right, per command: 7, 8, 9 (also past a count), 3, 2"
 unfoldable pub fault : Seen → ℕ → List ℕ → Answer

@@ -8,6 +8,7 @@ use Rattle.batch_words.specs.Words.{number, words}
 
 -- "01 trace rows, 4 bytes, 1–32; 02 a row, 312 bytes; 03, 04, 05 a difference for op stack, RAM, jump stack, 8; 06 the sampled challenges, 1,416;
 -- 07 program digest, 40; 08 input word, 8; 09 output word, 8; 00 end." Document 02, Three: "Command 0A carries a 312-byte row in that form, in the place of 02."
+-- Five: "Command 0B, one byte k, at most once, directly after 01, sets 2^k rows".
 abbrev pub END : ℕ
 END = 0
 
@@ -41,9 +42,12 @@ OUTPUT = 9
 abbrev pub MONTGOMERY-ROW : ℕ
 MONTGOMERY-ROW = 10
 
+abbrev pub HEIGHT : ℕ
+HEIGHT = 11
+
 -- commands are the bytes below
 abbrev pub COMMANDS : ℕ
-COMMANDS = 11
+COMMANDS = 12
 
 -- "1–32"; "At most 128 differences a list, 64 input and 64 output words."
 abbrev pub MAX-ROWS : ℕ
@@ -55,11 +59,15 @@ MAX-DIFFERENCES = 128
 abbrev pub MAX-WORDS : ℕ
 MAX-WORDS = 64
 
+-- Document 02, Five: "k from 1 to 22"
+abbrev pub MAX-LOG-2-HEIGHT : ℕ
+MAX-LOG-2-HEIGHT = 22
+
 -- of the operand, in bytes
 abbrev pub width : ℕ → ℕ
-width code = getD (0 ∷ 4 ∷ 312 ∷ 8 ∷ 8 ∷ 8 ∷ 1416 ∷ 40 ∷ 8 ∷ 8 ∷ 312 ∷ []) code 0
+width code = getD (0 ∷ 4 ∷ 312 ∷ 8 ∷ 8 ∷ 8 ∷ 1416 ∷ 40 ∷ 8 ∷ 8 ∷ 312 ∷ 1 ∷ []) code 0
 
--- the words of an operand; 01 has none
+-- the words of an operand; 01 and 0B have none
 abbrev pub wordsIn : ℕ → List ℕ → List ℕ
 wordsIn code operand = words (width code / 8) operand
 
@@ -67,10 +75,11 @@ wordsIn code operand = words (width code / 8) operand
 abbrev pub wordsFor : ℕ → ℕ → List ℕ → List ℕ
 wordsFor wanted code operand = cond (eqb code wanted) (wordsIn code operand) []
 
--- Document 02, One: "a batch runs 01, 07, all 08, all 09, 06, all rows, then all 03, all 04, all 05, .. then 00": a line for each place, with the commands that belong there
+-- Document 02, One: "a batch runs 01, 07, all 08, all 09, 06, all rows, then all 03, all 04, all 05, .. then 00"; Five: 0B "directly after 01": a line for each place, with the commands that belong there
 abbrev pub order : List (List ℕ)
 order =
     (TRACE-ROWS ∷ [])
+    ∷ (HEIGHT ∷ [])
     ∷ (DIGEST ∷ [])
     ∷ (INPUT ∷ [])
     ∷ (OUTPUT ∷ [])
@@ -96,7 +105,7 @@ rank code = lineOf code order
 
 -- "each difference list not descending": the bytes at an operand's start whose number is not below that of the command before it in its list
 abbrev pub keyWidth : ℕ → ℕ
-keyWidth code = getD (0 ∷ 0 ∷ 0 ∷ 8 ∷ 8 ∷ 8 ∷ 0 ∷ 0 ∷ 0 ∷ 0 ∷ 0 ∷ []) code 0
+keyWidth code = getD (0 ∷ 0 ∷ 0 ∷ 8 ∷ 8 ∷ 8 ∷ 0 ∷ 0 ∷ 0 ∷ 0 ∷ 0 ∷ 0 ∷ []) code 0
 
 unfoldable pub key : ℕ → List ℕ → ℕ
 unfolding number

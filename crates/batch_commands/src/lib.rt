@@ -3,7 +3,7 @@ use field_montgomery::Form;
 ghost use mathlib.Core.Path.{_≡_};
 ghost use lib.ListN.{drop};
 ghost use Rattle.batch_commands.specs.Form.{rowCommand};
-ghost use Rattle.batch_commands.specs.Fault.{headOf};
+ghost use Rattle.batch_commands.specs.Fault.{wrongHeight, headOf};
 
 // For callers that know which command it is, and that its operand is whole.
 pub mod unchecked;
@@ -30,8 +30,12 @@ pub const OUTPUT: usize = 9;
 
 pub const MONTGOMERY_ROW: usize = 10;
 
+pub const HEIGHT: usize = 11;
+
 // How many commands there are.
-pub const COUNT: usize = 11;
+pub const COUNT: usize = 12;
+
+const MAX_LOG2_HEIGHT: usize = 22;
 
 // The command of a row in the form.
 pub fn row_command(form: Form) -> usize
@@ -43,10 +47,25 @@ pub fn row_command(form: Form) -> usize
     }
 }
 
+// Whether k cannot set the height of a table with so many rows in its trace.
+pub fn wrong_height(rows: usize, log2_height: usize) -> bool
+    ensures { λ r. ⌜ r ≡ wrongHeight rows «log2_height» ⌝ }
+{
+    if log2_height < 1 {
+        return true;
+    }
+    if MAX_LOG2_HEIGHT < log2_height {
+        return true;
+    }
+    1 << log2_height < rows
+}
+
 // What counts for a command of those before it.
 pub struct Seen {
     // The rows that 01 announced.
     pub rows: usize,
+    // The k that 0B set, or 0.
+    pub log2_height: usize,
     // How often each command came.
     pub came: [usize; COUNT],
     // How far behind in the order they belong.

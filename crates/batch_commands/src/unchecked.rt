@@ -1,5 +1,6 @@
 // A command whose operand stands whole at a place of the batch.
 use crate::Seen;
+use crate::wrong_height;
 use batch_words::unchecked::half_at;
 use batch_words::unchecked::word_at;
 use batch_words::unchecked::words_below;
@@ -11,8 +12,8 @@ ghost use Prim.Native.Nat.{_+_, _<_, _≤_};
 ghost use lib.Dec.{eqb};
 ghost use lib.ListN.{length, take, drop, getD, set};
 ghost use Rattle.batch_words.specs.Words.{number};
-ghost use Rattle.batch_commands.specs.Format.{TRACE-ROWS, COMMANDS, width, rank, key};
-ghost use Rattle.batch_commands.specs.Fault.{limit, rowsIn, mixed, missing, outOfPlace, outOfOrder, wrongRowCount, judged};
+ghost use Rattle.batch_commands.specs.Format.{TRACE-ROWS, HEIGHT, COMMANDS, width, rank, key};
+ghost use Rattle.batch_commands.specs.Fault.{limit, rowsIn, mixed, missing, outOfPlace, outOfOrder, wrongRowCount, heightOutOfRange, judged};
 
 const MAX_ROWS: u32 = 32;
 
@@ -32,6 +33,7 @@ pub fn width(code: usize) -> usize
         crate::DIGEST => 40,
         crate::INPUT => 8,
         crate::OUTPUT => 8,
+        crate::HEIGHT => 1,
         _ => 312,
     }
 }
@@ -42,17 +44,18 @@ pub fn rank(code: usize) -> usize
     ensures { λ r. ⌜ r ≡ rank code ⌝ }
 {
     match code {
-        crate::END => 9,
+        crate::END => 10,
         crate::TRACE_ROWS => 0,
-        crate::ROW => 5,
-        crate::OP_STACK => 6,
-        crate::RAM => 7,
-        crate::JUMP_STACK => 8,
-        crate::SAMPLED => 4,
-        crate::DIGEST => 1,
-        crate::INPUT => 2,
-        crate::OUTPUT => 3,
-        _ => 5,
+        crate::ROW => 6,
+        crate::OP_STACK => 7,
+        crate::RAM => 8,
+        crate::JUMP_STACK => 9,
+        crate::SAMPLED => 5,
+        crate::DIGEST => 2,
+        crate::INPUT => 3,
+        crate::OUTPUT => 4,
+        crate::HEIGHT => 1,
+        _ => 6,
     }
 }
 
@@ -85,6 +88,7 @@ fn limit(rows: usize, code: usize) -> usize
         crate::DIGEST => 1,
         crate::INPUT => 64,
         crate::OUTPUT => 64,
+        crate::HEIGHT => 1,
         _ => rows,
     }
 }
@@ -116,6 +120,7 @@ fn count(came: [usize; crate::COUNT], code: usize) -> usize
         crate::DIGEST => came[crate::DIGEST],
         crate::INPUT => came[crate::INPUT],
         crate::OUTPUT => came[crate::OUTPUT],
+        crate::HEIGHT => came[crate::HEIGHT],
         _ => came[crate::MONTGOMERY_ROW],
     }
 }
@@ -136,6 +141,7 @@ pub fn counted(mut came: [usize; crate::COUNT], code: usize) -> [usize; crate::C
         crate::DIGEST => came[crate::DIGEST] = came[crate::DIGEST] + 1,
         crate::INPUT => came[crate::INPUT] = came[crate::INPUT] + 1,
         crate::OUTPUT => came[crate::OUTPUT] = came[crate::OUTPUT] + 1,
+        crate::HEIGHT => came[crate::HEIGHT] = came[crate::HEIGHT] + 1,
         _ => came[crate::MONTGOMERY_ROW] = came[crate::MONTGOMERY_ROW] + 1,
     }
     came
@@ -216,6 +222,17 @@ fn wrong_row_count(batch: &[u8], at: usize, code: usize) -> bool
     MAX_ROWS < rows
 }
 
+// Whether the command is an 0B that cannot set the height.
+fn height_out_of_range(batch: &[u8], at: usize, code: usize, rows: usize) -> bool
+    requires { ⌜ (code < COMMANDS) × (at + width code ≤ length (now batch)) ⌝ }
+    ensures { λ r. ⌜ r ≡ heightOutOfRange rows code (take (width code) (drop at (now (batch .entry)))) ⌝ }
+{
+    if code != crate::HEIGHT {
+        return false;
+    }
+    wrong_height(rows, batch[at] as usize)
+}
+
 // What is wrong with a command, after those that were seen.
 pub fn judge(batch: &[u8], at: usize, code: usize, seen: Seen) -> Answer
     requires { ⌜ (code < COMMANDS) × (at + width code ≤ length (now batch)) ⌝ }
@@ -232,6 +249,9 @@ pub fn judge(batch: &[u8], at: usize, code: usize, seen: Seen) -> Answer
     if wrong_row_count(batch, at, code) {
         return Answer::Refused(Refusal::RowCount);
     }
+    if height_out_of_range(batch, at, code, seen.rows) {
+        return Answer::Refused(Refusal::HeightOutOfRange);
+    }
     if !words_below(batch, at, width / 8) {
         return Answer::Refused(Refusal::WordNotBelowP);
     }
@@ -247,5 +267,17 @@ pub fn announced(batch: &[u8], at: usize, code: usize, rows: usize) -> usize
         half_at(batch, at) as usize
     } else {
         rows
+    }
+}
+
+// The k that is set after the command.
+pub fn log2_height(batch: &[u8], at: usize, code: usize, before: usize) -> usize
+    requires { ⌜ (code < COMMANDS) × (at + width code ≤ length (now batch)) ⌝ }
+    ensures { λ r. ⌜ r ≡ cond (eqb code HEIGHT) (number (take (width code) (drop at (now (batch .entry))))) before ⌝ }
+{
+    if code == crate::HEIGHT {
+        batch[at] as usize
+    } else {
+        before
     }
 }

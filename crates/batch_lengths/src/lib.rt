@@ -1,18 +1,27 @@
 // The lengths of what is written.
 use air::MainIndex;
 ghost use mathlib.Core.Path.{_≡_};
-ghost use Rattle.batch_lengths.specs.Lengths.{rightNumbers};
+ghost use Rattle.batch_lengths.specs.Lengths.{heightLength, rightNumbers};
 
 const MAX_DIFFERENCES: usize = 128;
 
 const MAX_WORDS: usize = 64;
 
-// What 01, 07, 06 and 00 take, and a row, and a difference or a word.
+// What 01, 07, 06 and 00 take, and 0B, and a row, and a difference or a word.
 const ONCE_LEN: usize = 1464;
+
+const HEIGHT_LEN: usize = 2;
 
 const ROW_LEN: usize = 313;
 
 const WORD_LEN: usize = 9;
+
+// What k takes: no 0B is written for 0.
+fn height_len(log2_height: usize) -> usize
+    ensures { λ r. ⌜ r ≡ heightLength «log2_height» ⌝ }
+{
+    if log2_height == 0 { 0 } else { HEIGHT_LEN }
+}
 
 // Of whole rows, lists within their counts, and a batch as long as they make it.
 pub fn right_lengths(
@@ -24,9 +33,10 @@ pub fn right_lengths(
     digest: usize,
     input: usize,
     output: usize,
+    log2_height: usize,
     batch: usize,
 ) -> bool
-    ensures { λ r. ⌜ r ≡ rightNumbers trace «op_stack» ram «jump_stack» sampled digest input output batch ⌝ }
+    ensures { λ r. ⌜ r ≡ rightNumbers trace «op_stack» ram «jump_stack» sampled digest input output «log2_height» batch ⌝ }
 {
     if trace % MainIndex::COUNT != 0 {
         return false;
@@ -52,7 +62,8 @@ pub fn right_lengths(
     if MAX_WORDS < output {
         return false;
     }
-    let without_rows = ONCE_LEN + WORD_LEN * (op_stack + ram + jump_stack + input + output);
+    let once = ONCE_LEN + height_len(log2_height);
+    let without_rows = once + WORD_LEN * (op_stack + ram + jump_stack + input + output);
     if batch < without_rows {
         return false;
     }

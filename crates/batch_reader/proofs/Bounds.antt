@@ -1,6 +1,7 @@
 -- How many commands of a kind a batch holds, and so how many words they bring.
 use mathlib.Core.Path.{_≡_, refl, sym, _∙_}
 use mathlib.Core.Bool.{Bool, true, false, cond, _&&_}
+use mathlib.Core.Logic.{_⊎_, inl, inr}
 use mathlib.Core.List.{List, [], _∷_, _++_}
 use Prim.Native.Nat.{ℕ, zero, suc, _+_, _≤_, _<_}
 use native.Mathlib.Omega.{arith}
@@ -10,11 +11,11 @@ use borrow.Author.Tests.{eqb-true, eq-eqb, ne-eqb, leb-true, not-false}
 use Rattle.field_base.proofs.Below.{and-true}
 use Rattle.refusal.specs.declared.Answer.the-variants.{Done}
 use Rattle.batch_words.specs.Words.{number}
-use Rattle.batch_commands.specs.Format.{TRACE-ROWS, COMMANDS, width, Command}
-use Rattle.batch_commands.specs.Fault.{limit, wrongRowCount, fault}
-use Rattle.batch_reader.specs.Commands.{count, announced, seenIn}
+use Rattle.batch_commands.specs.Format.{TRACE-ROWS, HEIGHT, COMMANDS, width, Command}
+use Rattle.batch_commands.specs.Fault.{limit, wrongRowCount, wrongHeight, fault}
+use Rattle.batch_reader.specs.Commands.{count, announced, heightOf, seenIn}
 use Rattle.batch_reader.specs.Reading.{read, reading}
-use Rattle.batch_reader.proofs.Commands.{count-one, count-at}
+use Rattle.batch_reader.proofs.Commands.{count-one, count-at, height-one, no-height}
 use Rattle.batch_reader.proofs.Passing.{Passes, passing}
 use Rattle.batch_reader.proofs.Readings.{at-start, kept}
 
@@ -92,6 +93,13 @@ module _ (code : ℕ) (bytes : List ℕ) where
             rw e (one-more (count c (k ∷ ks)) (limit (announced (k ∷ ks)) c) (eqb code c) (b .within c l) (λ q. under-at (k ∷ ks) c p (eqb-true code c q)));
       }
 
+  -- 0B comes once
+  pub once : (before : List Command) → Passes (seenIn before) code bytes → code ≡ HEIGHT → count HEIGHT before ≡ 0
+  once before p e = omega (arith, under-at before HEIGHT p e)
+
+  pub height-next : (before : List Command) → Passes (seenIn before) code bytes → heightOf (before ++ (next ∷ [])) ≡ cond (eqb code HEIGHT) (number (take (width code) bytes)) (heightOf before)
+  height-next before p = height-one before next (once before p)
+
 pub bounded : (batch : List ℕ) (ks : List Command) → reading batch ≡ read ks → Bounded ks
 bounded batch ks e = let a = at-start batch in kept Bounded (λ before code bytes. bounded-next code bytes before) (a .fuel) [] batch ks none-bounded (sym (a .rest) ∙ e)
 
@@ -108,6 +116,36 @@ one-at-most most (n ∷ ns) (suc i) h = one-at-most most ns i (h .1)
 pub count-small : (ks : List Command) → Bounded ks → (code : ℕ) → code < COMMANDS → count code ks ≤ 128
 count-small ks b code l =
     let few = b .few-rows in
-    let n = one-at-most 128 (1 ∷ 1 ∷ announced ks ∷ 128 ∷ 128 ∷ 128 ∷ 1 ∷ 1 ∷ 64 ∷ 64 ∷ announced ks ∷ []) code
-    (omega arith, (omega arith, (omega arith, (omega arith, (omega arith, (omega arith, (omega arith, (omega arith, (omega arith, (omega arith, (omega arith, tt))))))))))) in
+    let n = one-at-most 128 (1 ∷ 1 ∷ announced ks ∷ 128 ∷ 128 ∷ 128 ∷ 1 ∷ 1 ∷ 64 ∷ 64 ∷ announced ks ∷ 1 ∷ []) code
+    (omega arith, (omega arith, (omega arith, (omega arith, (omega arith, (omega arith, (omega arith, (omega arith, (omega arith, (omega arith, (omega arith, (omega arith, tt)))))))))))) in
     omega (arith, n, b .within code l)
+
+-- 0B did not come, or it set a height in its range
+abbrev pub HeightSet : List Command → Type 0
+HeightSet ks = ((count HEIGHT ks ≡ 0) × (heightOf ks ≡ 0)) ⊎ ((count HEIGHT ks ≡ 1) × (wrongHeight (announced ks) (heightOf ks) ≡ false))
+
+module _ (code : ℕ) (bytes : List ℕ) where
+  set-by : (k : Command) (ks : List Command) (same : Bool) → eqb code HEIGHT ≡ same → Passes (seenIn (k ∷ ks)) code bytes → HeightSet (k ∷ ks) → HeightSet (k ∷ ks ++ (next code bytes ∷ []))
+  set-by k ks true e p s =
+      let is = eqb-true code HEIGHT e in
+      let n : count HEIGHT (k ∷ ks ++ (next code bytes ∷ [])) ≡ 1 = count-one HEIGHT (k ∷ ks) (next code bytes) ∙ rw (e, once code bytes (k ∷ ks) p is) in
+      let h : heightOf (k ∷ ks ++ (next code bytes ∷ [])) ≡ number (take (width code) bytes) = height-next code bytes (k ∷ ks) p ∙ rw e in
+      inr (n, rw h (rw e at (p .height)))
+  set-by k ks false e p (inl s) =
+      let n : count HEIGHT (k ∷ ks ++ (next code bytes ∷ [])) ≡ 0 = count-one HEIGHT (k ∷ ks) (next code bytes) ∙ rw (e, s .0) in
+      inl (n, no-height (k ∷ ks ++ (next code bytes ∷ [])) n)
+  set-by k ks false e p (inr s) =
+      let n : count HEIGHT (k ∷ ks ++ (next code bytes ∷ [])) ≡ 1 = count-one HEIGHT (k ∷ ks) (next code bytes) ∙ rw (e, s .0) in
+      let h : heightOf (k ∷ ks ++ (next code bytes ∷ [])) ≡ heightOf (k ∷ ks) = height-next code bytes (k ∷ ks) p ∙ rw e in
+      inr (n, rw h (s .1))
+
+  set-next : (before : List Command) → fault (seenIn before) code bytes ≡ Done → HeightSet before → HeightSet (before ++ (next code bytes ∷ []))
+  unfolding count
+  set-next [] d s =
+      let n : count HEIGHT (next code bytes ∷ []) ≡ 0 = rw (first-is code bytes (passing (seenIn []) code bytes d)) in
+      inl (n, no-height (next code bytes ∷ []) n)
+  set-next (k ∷ ks) d s = set-by k ks (eqb code HEIGHT) refl (passing (seenIn (k ∷ ks)) code bytes d) s
+
+pub height-set : (batch : List ℕ) (ks : List Command) → reading batch ≡ read ks → HeightSet ks
+unfolding count
+height-set batch ks e = let a = at-start batch in kept HeightSet (λ before code bytes. set-next code bytes before) (a .fuel) [] batch ks (inl (refl, no-height [] refl)) (sym (a .rest) ∙ e)

@@ -1,4 +1,4 @@
--- Counts and contents of commands that stand one after the other.
+-- Counts, contents and the height of commands that stand one after the other.
 use mathlib.Core.Path.{_≡_, refl, sym, _∙_}
 use mathlib.Core.Bool.{Bool, true, false, cond}
 use mathlib.Core.List.{List, [], _∷_, _++_, append-assoc, map}
@@ -8,8 +8,9 @@ use native.Mathlib.Omega.{arith}
 use lib.Dec.{eqb}
 use lib.ListN.{length, getD, set, length-append}
 use borrow.Author.Tests.{eqb-true, eq-eqb, ne-eqb}
-use Rattle.batch_commands.specs.Format.{COMMANDS, width, wordsIn, wordsFor, rank, key, Command}
-use Rattle.batch_reader.specs.Commands.{count, counts, contents, highestRank, lastKey}
+use Rattle.batch_words.specs.Words.{number}
+use Rattle.batch_commands.specs.Format.{HEIGHT, COMMANDS, width, wordsIn, wordsFor, rank, key, Command}
+use Rattle.batch_reader.specs.Commands.{count, counts, contents, heightOf, highestRank, lastKey}
 use Rattle.batch_commands.proofs.Tables.{from, map-at}
 use Rattle.batch_words.proofs.Bytes.{length-words}
 
@@ -74,3 +75,23 @@ pub last-key : (before : ℕ) (ks : List Command) (k : Command) → lastKey befo
 unfolding lastKey
 last-key before [] k = refl
 last-key before (j ∷ ks) k = last-key (key (j .code) (j .operand)) ks k
+
+-- 0B, where none came, or another command
+pub height-one : (ks : List Command) (k : Command) → (k .code ≡ HEIGHT → count HEIGHT ks ≡ 0) → heightOf (ks ++ (k ∷ [])) ≡ cond (eqb (k .code) HEIGHT) (number (k .operand)) (heightOf ks)
+unfolding heightOf count
+height-one [] k h = refl
+height-one (j ∷ ks) k h = by-test (eqb (j .code) HEIGHT) h (height-one ks k)
+  where
+    by-test : (same : Bool) → (k .code ≡ HEIGHT → cond same 1 0 + count HEIGHT ks ≡ 0) → ((k .code ≡ HEIGHT → count HEIGHT ks ≡ 0) → heightOf (ks ++ (k ∷ [])) ≡ cond (eqb (k .code) HEIGHT) (number (k .operand)) (heightOf ks))
+        → cond same (number (j .operand)) (heightOf (ks ++ (k ∷ []))) ≡ cond (eqb (k .code) HEIGHT) (number (k .operand)) (cond same (number (j .operand)) (heightOf ks))
+    by-test true once rest = rw (ne-eqb (k .code) HEIGHT (λ e. let z = once e in omega arith))
+    by-test false once rest = rest (λ e. let z = once e in omega arith)
+
+pub no-height : (ks : List Command) → count HEIGHT ks ≡ 0 → heightOf ks ≡ 0
+unfolding heightOf count
+no-height [] z = refl
+no-height (k ∷ ks) z = by-test (eqb (k .code) HEIGHT) z (no-height ks)
+  where
+    by-test : (same : Bool) → cond same 1 0 + count HEIGHT ks ≡ 0 → (count HEIGHT ks ≡ 0 → heightOf ks ≡ 0) → cond same (number (k .operand)) (heightOf ks) ≡ 0
+    by-test true z rest = absurd (omega arith)
+    by-test false z rest = rest (omega arith)

@@ -19,7 +19,7 @@ use Rattle.batch_reader.specs.declared.OpenAnswer.{OpenAnswer}
 use Rattle.batch_reader.specs.declared.OpenAnswer.the-variants.{Opened, Refused}
 use Rattle.batch_commands.specs.declared.Seen.{Seen}
 use Rattle.batch_reader.specs.declared.Step.the-variants.{Stop, Next}
-use Rattle.batch_reader.specs.Commands.{counts}
+use Rattle.batch_reader.specs.Commands.{counts, heightOf}
 use Rattle.batch_reader.specs.Reading.{Reading, read, unless}
 use Rattle.batch_reader.specs.Answers.{countsIn, answerOf}
 use Rattle.batch_reader.specs.Steps.{stepBy, stepOf}
@@ -52,7 +52,7 @@ module _ (seen : Seen) where
   cut-off-step (code ∷ bytes) e = let h = cut-off-by (leb COMMANDS code) (ltb (length bytes) (width code)) code e in rw (h .0, h .1)
 
   pub whole-step : (bytes : List ℕ) (k : ℕ) → headOf bytes ≡ Whole k
-      → (k < COMMANDS) × (1 + width k ≤ length bytes) × (stepOf seen bytes ≡ stepBy (judged seen k (drop 1 bytes)) k (seen .came))
+      → (k < COMMANDS) × (1 + width k ≤ length bytes) × (stepOf seen bytes ≡ stepBy (judged seen k (drop 1 bytes)) k (seen .came) (seen .«log2_height»))
   unfolding fault
   whole-step [] k e = let z : _≡_ {A = ℕ} 0 1 = cc in (omega arith, omega arith, cc)
   whole-step (code ∷ bytes) k e =
@@ -63,19 +63,19 @@ module _ (seen : Seen) where
 
 -- a step that stops answers what the definition does
 stops : (answer : Answer) (code : ℕ) (last : Bool) (before : List Command) (next : Reading) (decided : OpenAnswer)
-    → eqb code END ≡ last → stepBy answer code (counts before) ≡ Stop decided → decided ≡ answerOf (unless answer (cond last (read before) next))
+    → eqb code END ≡ last → stepBy answer code (counts before) (heightOf before) ≡ Stop decided → decided ≡ answerOf (unless answer (cond last (read before) next))
 stops (answer.Refused r) code last before next decided q e = cc
-stops Done code true before next decided q e = let z : Stop (Opened (countsIn (counts before))) ≡ Stop decided = rw q at e in cc
+stops Done code true before next decided q e = let z : Stop (Opened (countsIn (counts before) (heightOf before))) ≡ Stop decided = rw q at e in cc
 stops Done code false before next decided q e = let z : Next code ≡ Stop decided = rw q at e in cc
 
 pub stopped : (answer : Answer) (code : ℕ) (before : List Command) (next : Reading) (decided : OpenAnswer)
-    → stepBy answer code (counts before) ≡ Stop decided → decided ≡ answerOf (unless answer (cond (eqb code END) (read before) next))
+    → stepBy answer code (counts before) (heightOf before) ≡ Stop decided → decided ≡ answerOf (unless answer (cond (eqb code END) (read before) next))
 stopped answer code before next decided e = stops answer code (eqb code END) before next decided refl e
 
-goes : (answer : Answer) (code k : ℕ) (came : List ℕ) (last : Bool) → eqb code END ≡ last → stepBy answer code came ≡ Next k → (answer ≡ Done) × (code ≡ k) × (code ≡ END → ⊥)
-goes (answer.Refused r) code k came last q e = let z : _≡_ {A = ℕ} 0 1 = cc in (cc, omega arith, λ _. omega arith)
-goes Done code k came true q e = let y : Stop (Opened (countsIn came)) ≡ Next k = rw q at e in let z : _≡_ {A = ℕ} 0 1 = cc in (refl, omega arith, λ _. omega arith)
-goes Done code k came false q e = let y : Next code ≡ Next k = rw q at e in (refl, cc, eqb-false code END q)
+goes : (answer : Answer) (code k : ℕ) (came : List ℕ) (height : ℕ) (last : Bool) → eqb code END ≡ last → stepBy answer code came height ≡ Next k → (answer ≡ Done) × (code ≡ k) × (code ≡ END → ⊥)
+goes (answer.Refused r) code k came height last q e = let z : _≡_ {A = ℕ} 0 1 = cc in (cc, omega arith, λ _. omega arith)
+goes Done code k came height true q e = let y : Stop (Opened (countsIn came height)) ≡ Next k = rw q at e in let z : _≡_ {A = ℕ} 0 1 = cc in (refl, omega arith, λ _. omega arith)
+goes Done code k came height false q e = let y : Next code ≡ Next k = rw q at e in (refl, cc, eqb-false code END q)
 
-pub went : (answer : Answer) (code k : ℕ) (came : List ℕ) → stepBy answer code came ≡ Next k → (answer ≡ Done) × (code ≡ k) × (code ≡ END → ⊥)
-went answer code k came e = goes answer code k came (eqb code END) refl e
+pub went : (answer : Answer) (code k : ℕ) (came : List ℕ) (height : ℕ) → stepBy answer code came height ≡ Next k → (answer ≡ Done) × (code ≡ k) × (code ≡ END → ⊥)
+went answer code k came height e = goes answer code k came height (eqb code END) refl e

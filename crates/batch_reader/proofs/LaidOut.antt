@@ -36,6 +36,7 @@ module _ (seen : Seen) (code : ℕ) (bytes others : List ℕ) (more : code ≡ E
         at-end = rw (ne-eqb code END more);
         in-order = rw (sym k) (p .in-order);
         row-count = rw (sym same) (p .row-count);
+        height = rw (sym same) (p .height);
         below = rw (sym w) (p .below);
       }
 

@@ -8,11 +8,11 @@ use lib.ListN.{length, take, getD}
 use borrow.Author.Tests.{ltb-false, le-ltb, leb-false, lt-leb, not-false}
 use Rattle.field_base.specs.Words.{allBelow}
 use Rattle.refusal.specs.declared.Answer.the-variants.{Done}
-use Rattle.refusal.specs.declared.Refusal.the-variants.{UnknownCommand, BatchCutOff, CommandOutOfPlace, CommandOutOfOrder, RowCount, WordNotBelowP}
+use Rattle.refusal.specs.declared.Refusal.the-variants.{UnknownCommand, BatchCutOff, CommandOutOfPlace, CommandOutOfOrder, RowCount, HeightOutOfRange, WordNotBelowP}
 use Rattle.refusal.proofs.Answers.{or-false, past}
 use Rattle.batch_commands.specs.declared.Seen.{Seen}
 use Rattle.batch_commands.specs.Format.{END, TRACE-ROWS, COMMANDS, width, wordsIn}
-use Rattle.batch_commands.specs.Fault.{limit, mixed, missing, outOfPlace, outOfOrder, wrongRowCount, judged, fault}
+use Rattle.batch_commands.specs.Fault.{limit, mixed, missing, outOfPlace, outOfOrder, wrongRowCount, heightOutOfRange, judged, fault}
 
 pub record Passes (seen : Seen) (code : ℕ) (bytes : List ℕ) : Type 0 where
   pub known : code < COMMANDS
@@ -23,6 +23,7 @@ pub record Passes (seen : Seen) (code : ℕ) (bytes : List ℕ) : Type 0 where
   pub at-end : (eqb code END && (missing (seen .rows) (seen .came) || not (eqb (length bytes - width code) 0))) ≡ false
   pub in-order : outOfOrder seen code bytes ≡ false
   pub row-count : wrongRowCount code (take (width code) bytes) ≡ false
+  pub height : heightOutOfRange (seen .rows) code (take (width code) bytes) ≡ false
   pub below : allBelow (wordsIn code bytes) ≡ true
 
 module _ (seen : Seen) (code : ℕ) (bytes : List ℕ) where
@@ -34,7 +35,8 @@ module _ (seen : Seen) (code : ℕ) (bytes : List ℕ) where
       let c = past (outOfPlace (seen .rows) (seen .came) code (length bytes - width code)) CommandOutOfPlace _ (b .1) in
       let d = past (outOfOrder seen code bytes) CommandOutOfOrder _ (c .1) in
       let f = past (wrongRowCount code (take (width code) bytes)) RowCount _ (d .1) in
-      let g = past (not (allBelow (wordsIn code bytes))) WordNotBelowP _ (f .1) in
+      let h = past (heightOutOfRange (seen .rows) code (take (width code) bytes)) HeightOutOfRange _ (f .1) in
+      let g = past (not (allBelow (wordsIn code bytes))) WordNotBelowP _ (h .1) in
       let first = eqb (getD (seen .came) TRACE-ROWS 0) 0 && not (eqb code TRACE-ROWS) in
       let over = leb (limit (seen .rows) code) (getD (seen .came) code 0) in
       let p = or-false (first || over || mixed (seen .came) code) (eqb code END && (missing (seen .rows) (seen .came) || not (eqb (length bytes - width code) 0))) (c .0) in
@@ -49,10 +51,11 @@ module _ (seen : Seen) (code : ℕ) (bytes : List ℕ) where
         at-end = p .1;
         in-order = d .0;
         row-count = f .0;
+        height = h .0;
         below = not-false (allBelow (wordsIn code bytes)) (g .0);
       }
 
   pub no-fault : Passes seen code bytes → fault seen code bytes ≡ Done
   unfolding fault judged
   no-fault p =
-      rw (lt-leb COMMANDS code (p .known), le-ltb (length bytes) (width code) (p .whole), p .after-first, lt-leb (limit (seen .rows) code) (getD (seen .came) code 0) (p .under), p .unmixed, p .at-end, p .in-order, p .row-count, p .below)
+      rw (lt-leb COMMANDS code (p .known), le-ltb (length bytes) (width code) (p .whole), p .after-first, lt-leb (limit (seen .rows) code) (getD (seen .came) code 0) (p .under), p .unmixed, p .at-end, p .in-order, p .row-count, p .height, p .below)

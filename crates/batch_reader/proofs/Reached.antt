@@ -13,7 +13,7 @@ use Rattle.batch_commands.proofs.Tables.{key-within}
 use Rattle.batch_reader.specs.declared.OpenAnswer.{OpenAnswer}
 use Rattle.batch_commands.specs.declared.Seen.{Seen}
 use Rattle.batch_reader.specs.declared.Step.the-variants.{Stop, Next}
-use Rattle.batch_reader.specs.Commands.{count, counts, announced, highestRank, lastKey, seenIn}
+use Rattle.batch_reader.specs.Commands.{count, counts, announced, heightOf, highestRank, lastKey, seenIn}
 use Rattle.batch_reader.specs.Reading.{readFrom, reading}
 use Rattle.batch_reader.specs.Answers.{answerOf}
 use Rattle.batch_reader.specs.Steps.{seenNothing, seenPast, stepBy, stepOf}
@@ -22,7 +22,7 @@ use Rattle.batch_reader.proofs.Passing.{Passes, passing}
 use Rattle.batch_reader.proofs.Faults.{stopped, went}
 use Rattle.batch_reader.proofs.Ordered.{not-before}
 use Rattle.batch_reader.proofs.Readings.{commandAt, faultAt, pastAt, Along, at-start, nothing-left, goes-on}
-use Rattle.batch_reader.proofs.Bounds.{Bounded, none-bounded, announced-next, bounded-next, count-small}
+use Rattle.batch_reader.proofs.Bounds.{Bounded, none-bounded, announced-next, bounded-next, height-next, count-small}
 
 pub record Reached (batch : List ℕ) (seen : Seen) (at : ℕ) : Type 0 where
   pub before : List Command
@@ -31,7 +31,7 @@ pub record Reached (batch : List ℕ) (seen : Seen) (at : ℕ) : Type 0 where
   pub seen-is : seen ≡ seenIn before
 
 pub nothing-read : (batch : List ℕ) → Reached batch seenNothing 0
-unfolding count highestRank lastKey
+unfolding count heightOf highestRank lastKey
 nothing-read batch = record { before = []; along = at-start batch; bounded = none-bounded; seen-is = refl }
 
 -- a step that stops answers what the definition does
@@ -64,8 +64,8 @@ module _ (batch : List ℕ) (seen : Seen) (at : ℕ) (r : Reached batch seen at)
     -- the step is by the fault that the definition finds
     on : (faultAt batch at (r .before) ≡ Done) × (code ≡ k) × (code ≡ END → ⊥)
     on =
-        let e : stepOf seen (drop at batch) ≡ stepBy (fault seen code bytes) code (seen .came) = rw (drop-cons batch at 0 here, add-one) in
-        went (faultAt batch at (r .before)) code k (counts (r .before)) (rw (r .seen-is) at (sym e ∙ next))
+        let e : stepOf seen (drop at batch) ≡ stepBy (fault seen code bytes) code (seen .came) (seen .«log2_height») = rw (drop-cons batch at 0 here, add-one) in
+        went (faultAt batch at (r .before)) code k (counts (r .before)) (heightOf (r .before)) (rw (r .seen-is) at (sym e ∙ next))
 
     passed : Passes (seenIn (r .before)) code bytes
     passed = passing (seenIn (r .before)) code bytes (on .0)
@@ -85,11 +85,12 @@ module _ (batch : List ℕ) (seen : Seen) (at : ℕ) (r : Reached batch seen at)
     seen-next : seenPast seen code bytes ≡ seenIn (r .before ++ (commandAt batch at ∷ []))
     seen-next =
         let n : seenPast seen code bytes .rows ≡ announced (r .before ++ (commandAt batch at ∷ [])) = rw (r .seen-is) (sym (announced-next code bytes (r .before) (r .bounded) passed)) in
+        let h : seenPast seen code bytes .«log2_height» ≡ heightOf (r .before ++ (commandAt batch at ∷ [])) = rw (r .seen-is) (sym (height-next code bytes (r .before) passed)) in
         let m : seenPast seen code bytes .came ≡ counts (r .before ++ (commandAt batch at ∷ [])) = rw (came-at, r .seen-is) (sym (counts-one (r .before) (commandAt batch at) (passed .known))) in
         let b = not-before (highestRank (r .before)) (lastKey 0 (r .before)) (rank code) (key code bytes) (passed .in-order) in
         let k : seenPast seen code bytes .rank ≡ highestRank (r .before ++ (commandAt batch at ∷ [])) = omega (arith, b .0, highest-one (r .before) (commandAt batch at)) in
         let l : seenPast seen code bytes .key ≡ lastKey 0 (r .before ++ (commandAt batch at ∷ [])) = sym (last-key 0 (r .before) (commandAt batch at) ∙ key-within code bytes (passed .known)) in
-        λ i. record { rows = n i; came = m i; rank = k i; key = l i }
+        λ i. record { rows = n i; «log2_height» = h i; came = m i; rank = k i; key = l i }
 
     reached-past : Reached batch (seenPast seen code bytes) (pastAt batch at)
     reached-past =

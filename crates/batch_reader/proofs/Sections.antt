@@ -1,9 +1,10 @@
 -- The commands of one kind stand together: a section, which begins behind the commands of a lower rank.
 use mathlib.Core.Path.{_≡_, refl, sym, ap, subst, _∙_}
 use mathlib.Core.Bool.{Bool, true, false, cond, _&&_}
+use mathlib.Core.Logic.{inl, inr}
 use mathlib.Core.List.{List, [], _∷_, _++_, append-assoc, append-nil}
 use Prim.Native.Nat.{ℕ, _+_, _*_, _/_, _≤_, _<_}
-use native.Mathlib.Nat.{add-assoc, zero-add, add-zero, add-mul}
+use native.Mathlib.Nat.{add-assoc, zero-add, add-zero}
 use native.Mathlib.Omega.{arith}
 use lib.Dec.{eqb, ltb, lit<}
 use lib.ListN.{length, take, drop, getD, length-append, length-drop}
@@ -14,16 +15,17 @@ use Rattle.field_montgomery.specs.declared.Form.{Form}
 use Rattle.field_montgomery.specs.declared.Form.the-variants.{Plain, Montgomery}
 use Rattle.field_montgomery.specs.Form.{plain}
 use Rattle.field_montgomery.proofs.Many.{length-plain, plain-append}
-use Rattle.batch_commands.specs.Format.{END, TRACE-ROWS, DIGEST, MONTGOMERY-ROW, COMMANDS, width, wordsIn, rank, key, Command, laidOut}
+use Rattle.batch_commands.specs.Format.{END, TRACE-ROWS, DIGEST, MONTGOMERY-ROW, HEIGHT, COMMANDS, width, wordsIn, rank, key, Command, laidOut}
 use Rattle.batch_commands.specs.Form.{OfForm}
+use Rattle.batch_commands.specs.Fault.{wrongHeight}
 use Rattle.batch_commands.proofs.Tables.{rank-injective, of-test}
 use Rattle.batch_commands.proofs.Laid.{laid-append}
-use Rattle.batch_reader.specs.Commands.{count, counts, contents, formOf}
+use Rattle.batch_reader.specs.Commands.{count, counts, contents, formOf, announced, heightOf}
 use Rattle.batch_reader.specs.Reading.{read, reading, commandsOf}
 use Rattle.batch_reader.specs.Answers.{written}
 use Rattle.batch_reader.specs.Steps.{bytesBelow}
 use Rattle.batch_reader.proofs.Commands.{count-at, count-past, contents-append, length-contents}
-use Rattle.batch_reader.proofs.Bounds.{bounded}
+use Rattle.batch_reader.proofs.Bounds.{bounded, HeightSet, height-set}
 use Rattle.batch_reader.proofs.Ordered.{Every, every-append, every-map, every-at, ordered, ordered-parts, ranks-from, split}
 use Rattle.batch_reader.proofs.Forms.{of-form}
 use Rattle.batch_reader.proofs.LaidOut.{Next, Faultless, faultless-parts, Laid, laid}
@@ -251,15 +253,18 @@ module _ (batch : List ℕ) (opened : reading batch ≡ read (commandsOf (readin
       let parts : all ≡ section .before ++ (h .k ∷ h .rest) = section .parts ∙ ap (_++_ (section .before)) (h .is) in
       rw (ne-eqb (count MONTGOMERY-ROW all) 0 (λ z. omega (arith, some, ap (count MONTGOMERY-ROW) parts)))
 
--- 01, which has five bytes, stands first and once
+-- before 07 stand 01, which has five bytes, once, and 0B, which has two, at most once
 abbrev inFront : ℕ → ℕ
 inFront code = cond (ltb (rank code) (rank DIGEST)) (1 + width code) 0
 
-in-front : (ks : List Command) → Every (λ k. k .code < COMMANDS) ks → bytesBelow (rank DIGEST) ks ≡ count TRACE-ROWS ks * 5
+abbrev ofFront : ℕ → ℕ
+ofFront code = cond (eqb code TRACE-ROWS) 1 0 * 5 + cond (eqb code HEIGHT) 1 0 * 2
+
+in-front : (ks : List Command) → Every (λ k. k .code < COMMANDS) ks → bytesBelow (rank DIGEST) ks ≡ count TRACE-ROWS ks * 5 + count HEIGHT ks * 2
 unfolding bytesBelow count
 in-front [] h = omega arith
 in-front (k ∷ ks) h =
-    rw (eqb-true (inFront (k .code)) (cond (eqb (k .code) TRACE-ROWS) 1 0 * 5) (of-test (λ code. eqb (inFront code) (cond (eqb code TRACE-ROWS) 1 0 * 5)) refl (k .code) (h .0)), in-front ks (h .1), add-mul)
+    rw (eqb-true (inFront (k .code)) (ofFront (k .code)) (of-test (λ code. eqb (inFront code) (ofFront code)) refl (k .code) (h .0)), in-front ks (h .1)) (omega arith)
 
 all-known : (before ks : List Command) → Faultless before ks → Every (λ k. k .code < COMMANDS) ks
 all-known before [] h = tt
@@ -269,10 +274,19 @@ came : (n : ℕ) (none : Bool) → eqb n 0 ≡ none → (none && true) ≡ false
 came n true e h = λ z. let q : _≡_ {A = ℕ} 0 1 = cc in omega arith
 came n false e h = eqb-false n 0 e
 
-pub behind-first : (batch : List ℕ) (ks : List Command) → reading batch ≡ read ks → bytesBelow (rank DIGEST) ks ≡ 5
+-- k 0 is not sent
+height-bytes : (ks : List Command) → HeightSet ks → 5 + count HEIGHT ks * 2 ≡ cond (eqb (heightOf ks) 0) 5 7
+height-bytes ks (inl s) = rw (s .0, s .1)
+height-bytes ks (inr s) = rw (s .0, ne-eqb (heightOf ks) 0 (λ z. in-range (heightOf ks) (s .1) z))
+  where
+    in-range : (k : ℕ) → wrongHeight (announced ks) k ≡ false → k ≡ 0 → ⊥
+    in-range k e z = let q : _≡_ {A = Bool} true false = rw z at e in let n : _≡_ {A = ℕ} 0 1 = cc in omega arith
+
+pub behind-first : (batch : List ℕ) (ks : List Command) → reading batch ≡ read ks → bytesBelow (rank DIGEST) ks ≡ cond (eqb (heightOf ks) 0) 5 7
 behind-first batch ks e =
     let l = laid batch ks e in
     let n = in-front ks (all-known [] ks (l .faultless)) in
-    let once = bounded batch ks e .within TRACE-ROWS (lit< tt) in
+    let one = bounded batch ks e .within TRACE-ROWS (lit< tt) in
     let some = came (getD (counts ks) TRACE-ROWS 0) (eqb (getD (counts ks) TRACE-ROWS 0) 0) refl (l .complete .after-first) in
-    omega (arith, count-at ks TRACE-ROWS (lit< tt))
+    let first : count TRACE-ROWS ks ≡ 1 = omega (arith, count-at ks TRACE-ROWS (lit< tt)) in
+    n ∙ rw first (height-bytes ks (height-set batch ks e))

@@ -6,7 +6,7 @@ use lib.Dec.{eqb}
 use Rattle.batch_words.specs.Words.{number, words}
 use Rattle.batch_commands.specs.declared.Seen.{Seen}
 use Rattle.field_montgomery.specs.declared.Form.{Form}
-use Rattle.batch_commands.specs.Format.{ROW, rank, key, wordsFor, Command}
+use Rattle.batch_commands.specs.Format.{ROW, HEIGHT, rank, key, wordsFor, Command}
 use Rattle.field_montgomery.specs.Form.{plain}
 use Rattle.batch_commands.specs.Form.{rowCommand}
 use Rattle.batch_commands.specs.Fault.{formIn}
@@ -18,7 +18,7 @@ count code (command ∷ commands) = cond (eqb (command .code) code) 1 0 + count 
 
 -- how often each, by its byte
 abbrev pub counts : List Command → List ℕ
-counts commands = map (λ code. count code commands) (0 ∷ 1 ∷ 2 ∷ 3 ∷ 4 ∷ 5 ∷ 6 ∷ 7 ∷ 8 ∷ 9 ∷ 10 ∷ [])
+counts commands = map (λ code. count code commands) (0 ∷ 1 ∷ 2 ∷ 3 ∷ 4 ∷ 5 ∷ 6 ∷ 7 ∷ 8 ∷ 9 ∷ 10 ∷ 11 ∷ [])
 
 -- the words that the commands of one kind bring, in their order
 unfoldable pub contents : ℕ → List Command → List ℕ
@@ -39,6 +39,12 @@ abbrev pub announced : List Command → ℕ
 announced [] = 0
 announced (command ∷ commands) = number (command .operand)
 
+-- the k of 0B, "0 without it"
+unfoldable pub heightOf : List Command → ℕ
+unfolding number
+heightOf [] = 0
+heightOf (command ∷ commands) = cond (eqb (command .code) HEIGHT) (number (command .operand)) (heightOf commands)
+
 -- how far behind they belong
 unfoldable pub highestRank : List Command → ℕ
 highestRank [] = 0
@@ -52,4 +58,4 @@ lastKey before (command ∷ commands) = lastKey (key (command .code) (command .o
 
 -- what counts for the command that follows
 abbrev pub seenIn : List Command → Seen
-seenIn commands = record { rows = announced commands; came = counts commands; rank = highestRank commands; key = lastKey 0 commands }
+seenIn commands = record { rows = announced commands; «log2_height» = heightOf commands; came = counts commands; rank = highestRank commands; key = lastKey 0 commands }

@@ -10,7 +10,7 @@ use Rattle.refusal.specs.declared.Refusal.{Refusal}
 use Rattle.refusal.specs.declared.Refusal.the-variants.{BatchCutOff}
 use Rattle.batch_commands.specs.Format.{END, width, Command}
 use Rattle.batch_commands.specs.Fault.{fault}
-use Rattle.batch_reader.specs.Commands.{count, highestRank, lastKey, seenIn}
+use Rattle.batch_reader.specs.Commands.{count, heightOf, highestRank, lastKey, seenIn}
 
 -- the commands before 00, or the first fault
 pub data Reading : Type 0 where
@@ -23,7 +23,7 @@ unless Done next = next
 
 -- what follows the commands `passed`; a command has at least one byte, so n at least the number of bytes is enough; "At the end 8 without 00"
 unfoldable pub readFrom : ℕ → List Command → List ℕ → Reading
-unfolding fault count highestRank lastKey
+unfolding fault count heightOf highestRank lastKey
 readFrom zero passed bytes = refused BatchCutOff
 readFrom (suc n) passed [] = refused BatchCutOff
 readFrom (suc n) passed (code ∷ bytes) =

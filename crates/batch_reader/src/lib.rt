@@ -6,6 +6,7 @@ use batch_commands::unchecked::announced;
 use batch_commands::unchecked::counted;
 use batch_commands::unchecked::judge;
 use batch_commands::unchecked::key_at;
+use batch_commands::unchecked::log2_height;
 use batch_commands::unchecked::rank;
 use batch_commands::unchecked::rows_in;
 use refusal::Answer;
@@ -29,6 +30,8 @@ pub struct Counts {
     pub jump_stack: usize,
     pub input: usize,
     pub output: usize,
+    // The k that 0B set, or 0.
+    pub log2_height: usize,
 }
 
 pub enum OpenAnswer {
@@ -48,14 +51,15 @@ fn seen_nothing() -> Seen
 {
     Seen {
         rows: 0,
+        log2_height: 0,
         came: [0; batch_commands::COUNT],
         rank: 0,
         key: 0,
     }
 }
 
-fn counts_in(came: [usize; batch_commands::COUNT]) -> Counts
-    ensures { λ r. ⌜ r ≡ countsIn came ⌝ }
+fn counts_in(came: [usize; batch_commands::COUNT], log2_height: usize) -> Counts
+    ensures { λ r. ⌜ r ≡ countsIn came «log2_height» ⌝ }
 {
     Counts {
         rows: rows_in(came),
@@ -64,6 +68,7 @@ fn counts_in(came: [usize; batch_commands::COUNT]) -> Counts
         jump_stack: came[batch_commands::JUMP_STACK],
         input: came[batch_commands::INPUT],
         output: came[batch_commands::OUTPUT],
+        log2_height,
     }
 }
 
@@ -80,7 +85,7 @@ fn step_at(head: Head, batch: &[u8], at: usize, seen: Seen) -> Step
                 Answer::Refused(refusal) => Step::Stop(OpenAnswer::Refused(refusal)),
                 Answer::Done => {
                     if code == batch_commands::END {
-                        Step::Stop(OpenAnswer::Opened(counts_in(came)))
+                        Step::Stop(OpenAnswer::Opened(counts_in(came, seen.log2_height)))
                     } else {
                         Step::Next(code)
                     }
@@ -99,6 +104,7 @@ fn seen_past(batch: &[u8], at: usize, code: usize, seen: Seen) -> Seen
     let came = counted(before, code);
     Seen {
         rows: announced(batch, at + 1, code, seen.rows),
+        log2_height: log2_height(batch, at + 1, code, seen.log2_height),
         came,
         rank: rank(code),
         key: key_at(batch, at + 1, code),

@@ -26,7 +26,7 @@ pub record Right (c : Contents) (batch : ℕ) : Type 0 where
   pub digest : length (c .digest) ≡ 5
   pub input : length (c .input) ≤ 64
   pub output : length (c .output) ≤ 64
-  pub batch-length : batch ≡ batchLength (length (c .trace) / 39) (length (c .op-stack) + length (c .ram) + length (c .jump-stack) + length (c .input) + length (c .output))
+  pub batch-length : batch ≡ batchLength (c .log2-height) (length (c .trace) / 39) (length (c .op-stack) + length (c .ram) + length (c .jump-stack) + length (c .input) + length (c .output))
 
 module _ (c : Contents) where
   abbrev first-seven : Bool
@@ -43,7 +43,7 @@ module _ (c : Contents) where
   all-lists = first-seven && leb (length (c .output)) 64
 
   abbrev number : ℕ
-  number = batchLength (length (c .trace) / 39) (length (c .op-stack) + length (c .ram) + length (c .jump-stack) + length (c .input) + length (c .output))
+  number = batchLength (c .log2-height) (length (c .trace) / 39) (length (c .op-stack) + length (c .ram) + length (c .jump-stack) + length (c .input) + length (c .output))
 
   -- where the lists are as they should be
   lists : all-lists ≡ true → Right c number
@@ -81,7 +81,7 @@ module _ (c : Contents) where
     unfolding rightLengths
     in-tests = refl
 
-    pub by-numbers : rightLengths form c batch ≡ rightNumbers (length (c .trace)) (length (c .op-stack)) (length (c .ram)) (length (c .jump-stack)) (length (c .sampled)) (length (c .digest)) (length (c .input)) (length (c .output)) batch
+    pub by-numbers : rightLengths form c batch ≡ rightNumbers (length (c .trace)) (length (c .op-stack)) (length (c .ram)) (length (c .jump-stack)) (length (c .sampled)) (length (c .digest)) (length (c .input)) (length (c .output)) (c .log2-height) batch
     by-numbers = in-tests ∙ and-same all-lists (eqb batch (length (batchOf form c))) (eqb batch number) (λ all. ap (eqb batch) (is-number form (lists all)))
 
     pub right : rightLengths form c batch ≡ true → Right c batch

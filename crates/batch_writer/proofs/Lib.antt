@@ -3,6 +3,7 @@ pub mod Laying
 mod Putting
 pub mod Parts
 pub mod Lengths
+pub mod Heights
 mod Room
 mod Reaching
 mod Belows

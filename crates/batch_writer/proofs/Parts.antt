@@ -16,14 +16,14 @@ use Rattle.batch_sorted.specs.Sorted.{sorted}
 use Rattle.batch_sorted.proofs.Lengths.{length-sorted}
 use Rattle.batch_writer.specs.Contents.{Contents}
 use Rattle.batch_lengths.specs.Lengths.{batchLength}
-use Rattle.batch_writer.specs.Layout.{commandsWith, batchOf}
-use Rattle.batch_writer.proofs.Laying.{length-laid, length-laid-rows}
+use Rattle.batch_writer.specs.Layout.{commandsOfHeight, commandsWith, batchOf}
+use Rattle.batch_writer.proofs.Laying.{length-height, length-laid, length-laid-rows}
 
-laid-all : (a b c d e f g h i j : List Command) → laidOut (a ++ b ++ c ++ d ++ e ++ f ++ g ++ h ++ i ++ j) ≡ laidOut a ++ laidOut b ++ laidOut c ++ laidOut d ++ laidOut e ++ laidOut f ++ laidOut g ++ laidOut h ++ laidOut i ++ laidOut j
-laid-all a b c d e f g h i j = simp laid-append
+laid-all : (a b c d e f g h i j k : List Command) → laidOut (a ++ b ++ c ++ d ++ e ++ f ++ g ++ h ++ i ++ j ++ k) ≡ laidOut a ++ laidOut b ++ laidOut c ++ laidOut d ++ laidOut e ++ laidOut f ++ laidOut g ++ laidOut h ++ laidOut i ++ laidOut j ++ laidOut k
+laid-all a b c d e f g h i j k = simp laid-append
 
-length-all : (a b c d e f g h i j : List ℕ) → length (a ++ b ++ c ++ d ++ e ++ f ++ g ++ h ++ i ++ j) ≡ length a + length b + length c + length d + length e + length f + length g + length h + length i + length j
-length-all a b c d e f g h i j = simp length-append
+length-all : (a b c d e f g h i j k : List ℕ) → length (a ++ b ++ c ++ d ++ e ++ f ++ g ++ h ++ i ++ j ++ k) ≡ length a + length b + length c + length d + length e + length f + length g + length h + length i + length j + length k
+length-all a b c d e f g h i j k = simp length-append
 
 single : (k : Command) → laidOut (k ∷ []) ≡ k .code ∷ k .operand
 unfolding laidOut
@@ -42,6 +42,7 @@ module _ (form : Form) (c : Contents) where
   abbrev commands : List Command
   commands =
       (first ∷ [])
+      ++ commandsOfHeight (c .log2-height)
       ++ commandsWith 1 DIGEST (c .digest)
       ++ commandsWith (length (c .input)) INPUT (c .input)
       ++ commandsWith (length (c .output)) OUTPUT (c .output)
@@ -60,8 +61,11 @@ module _ (form : Form) (c : Contents) where
   abbrev pub upTo01 : List ℕ
   upTo01 = TRACE-ROWS ∷ littleEndian 4 (rows (c .trace))
 
+  abbrev pub upTo0B : List ℕ
+  upTo0B = upTo01 ++ laidOut (commandsOfHeight (c .log2-height))
+
   abbrev pub upTo07 : List ℕ
-  upTo07 = upTo01 ++ kind 1 DIGEST (c .digest)
+  upTo07 = upTo0B ++ kind 1 DIGEST (c .digest)
 
   abbrev pub upTo08 : List ℕ
   upTo08 = upTo07 ++ kind (length (c .input)) INPUT (c .input)
@@ -87,17 +91,18 @@ module _ (form : Form) (c : Contents) where
   pub in-parts : batchOf form c ≡ upTo05 ++ (END ∷ [])
   in-parts =
       as-commands
-      ∙ laid-all (first ∷ []) (commandsWith 1 DIGEST (c .digest)) (commandsWith (length (c .input)) INPUT (c .input)) (commandsWith (length (c .output)) OUTPUT (c .output)) (commandsWith 1 SAMPLED (c .sampled)) (commandsWith (rows (c .trace)) (rowCommand form) (inForm form (c .trace))) (commandsWith (length (c .op-stack)) OP-STACK (sorted (c .op-stack))) (commandsWith (length (c .ram)) RAM (sorted (c .ram))) (commandsWith (length (c .jump-stack)) JUMP-STACK (sorted (c .jump-stack))) (last ∷ [])
+      ∙ laid-all (first ∷ []) (commandsOfHeight (c .log2-height)) (commandsWith 1 DIGEST (c .digest)) (commandsWith (length (c .input)) INPUT (c .input)) (commandsWith (length (c .output)) OUTPUT (c .output)) (commandsWith 1 SAMPLED (c .sampled)) (commandsWith (rows (c .trace)) (rowCommand form) (inForm form (c .trace))) (commandsWith (length (c .op-stack)) OP-STACK (sorted (c .op-stack))) (commandsWith (length (c .ram)) RAM (sorted (c .ram))) (commandsWith (length (c .jump-stack)) JUMP-STACK (sorted (c .jump-stack))) (last ∷ [])
       ∙ rw (single first, single last)
 
   pub length-batchOf : length (c .trace) % 39 ≡ 0 → length (c .sampled) ≡ 177 → length (c .digest) ≡ 5
-      → length (batchOf form c) ≡ batchLength (rows (c .trace)) (length (c .op-stack) + length (c .ram) + length (c .jump-stack) + length (c .input) + length (c .output))
+      → length (batchOf form c) ≡ batchLength (c .log2-height) (rows (c .trace)) (length (c .op-stack) + length (c .ram) + length (c .jump-stack) + length (c .input) + length (c .output))
   length-batchOf whole sampled digest =
       ap length in-parts
-      ∙ length-all (TRACE-ROWS ∷ littleEndian 4 (rows (c .trace))) (kind 1 DIGEST (c .digest)) (kind (length (c .input)) INPUT (c .input)) (kind (length (c .output)) OUTPUT (c .output)) (kind 1 SAMPLED (c .sampled)) (kind (rows (c .trace)) (rowCommand form) (inForm form (c .trace))) (kind (length (c .op-stack)) OP-STACK (sorted (c .op-stack))) (kind (length (c .ram)) RAM (sorted (c .ram))) (kind (length (c .jump-stack)) JUMP-STACK (sorted (c .jump-stack))) (END ∷ [])
+      ∙ length-all (TRACE-ROWS ∷ littleEndian 4 (rows (c .trace))) (laidOut (commandsOfHeight (c .log2-height))) (kind 1 DIGEST (c .digest)) (kind (length (c .input)) INPUT (c .input)) (kind (length (c .output)) OUTPUT (c .output)) (kind 1 SAMPLED (c .sampled)) (kind (rows (c .trace)) (rowCommand form) (inForm form (c .trace))) (kind (length (c .op-stack)) OP-STACK (sorted (c .op-stack))) (kind (length (c .ram)) RAM (sorted (c .ram))) (kind (length (c .jump-stack)) JUMP-STACK (sorted (c .jump-stack))) (END ∷ [])
       ∙ omega (
         arith,
         length-littleEndian 4 (rows (c .trace)),
+        length-height (c .log2-height),
         length-laid 1 DIGEST (c .digest) refl (omega arith),
         length-laid (length (c .input)) INPUT (c .input) refl (omega arith),
         length-laid (length (c .output)) OUTPUT (c .output) refl (omega arith),

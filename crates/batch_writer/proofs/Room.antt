@@ -5,6 +5,7 @@ use native.Mathlib.Omega.{arith}
 use lib.ListN.{length}
 use Rattle.batch_sorted.specs.Sorted.{sorted}
 use Rattle.batch_sorted.proofs.Lengths.{length-sorted}
+use Rattle.batch_lengths.specs.Lengths.{heightLength}
 use Rattle.batch_writer.specs.Contents.{Contents}
 use Rattle.batch_writer.proofs.Lengths.{Right}
 
@@ -12,8 +13,11 @@ module _ (c : Contents) where
   abbrev pub past01 : ℕ
   past01 = 5
 
+  abbrev pub past0B : ℕ
+  past0B = past01 + heightLength (c .log2-height)
+
   abbrev pub past07 : ℕ
-  past07 = past01 + 41
+  past07 = past0B + 41
 
   abbrev pub past08 : ℕ
   past08 = past07 + length (c .input) * 9
@@ -38,6 +42,7 @@ module _ (c : Contents) where
 
 pub record Room (c : Contents) (batch : ℕ) : Type 0 where
   pub room01 : past01 c ≤ batch
+  pub room0B : past0B c ≤ batch
   pub room07 : past07 c ≤ batch
   pub room08 : past08 c ≤ batch
   pub room09 : past09 c ≤ batch
@@ -60,6 +65,7 @@ pub room : (c : Contents) (batch : ℕ) → Right c batch → Room c batch
 room c batch r =
     record {
       room01 = omega arith;
+      room0B = omega arith;
       room07 = omega arith;
       room08 = omega arith;
       room09 = omega arith;

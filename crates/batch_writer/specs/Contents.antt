@@ -11,9 +11,11 @@ pub record Contents : Type 0 where
   pub digest : List ℕ
   pub input : List ℕ
   pub output : List ℕ
+  -- the k of 0B, or 0
+  pub log2-height : ℕ
 
-abbrev pub contentsOf : (trace op-stack ram jump-stack sampled digest input output : List ℕ) → Contents
-contentsOf trace op-stack ram jump-stack sampled digest input output =
+abbrev pub contentsOf : (trace op-stack ram jump-stack sampled digest input output : List ℕ) (log2-height : ℕ) → Contents
+contentsOf trace op-stack ram jump-stack sampled digest input output log2-height =
     record {
       trace = trace;
       op-stack = op-stack;
@@ -23,4 +25,5 @@ contentsOf trace op-stack ram jump-stack sampled digest input output =
       digest = digest;
       input = input;
       output = output;
+      log2-height = log2-height;
     }

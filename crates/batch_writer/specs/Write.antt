@@ -8,10 +8,11 @@ use Rattle.field_base.specs.Words.{allBelow}
 use Rattle.refusal.specs.Number.{onDone}
 use Rattle.refusal.specs.declared.Answer.{Answer}
 use Rattle.refusal.specs.declared.Answer.the-variants.{Done, Refused}
-use Rattle.refusal.specs.declared.Refusal.the-variants.{SliceLength, RowCount, WordNotBelowP}
+use Rattle.refusal.specs.declared.Refusal.the-variants.{SliceLength, RowCount, HeightOutOfRange, WordNotBelowP}
 use Rattle.air.specs.ChallengeId.{SAMPLED-WORDS, DIGEST-WORDS}
 use Rattle.table_rows.specs.Rows.{wholeRows, rows}
 use Rattle.batch_commands.specs.Format.{MAX-ROWS, MAX-DIFFERENCES, MAX-WORDS}
+use Rattle.batch_commands.specs.Fault.{wrongHeight}
 use Rattle.field_montgomery.specs.declared.Form.{Form}
 use Rattle.batch_writer.specs.Contents.{Contents}
 use Rattle.batch_writer.specs.Layout.{batchOf}
@@ -41,14 +42,19 @@ allWordsBelow contents =
     && allBelow (contents .input)
     && allBelow (contents .output)
 
--- "1 for a slice of wrong length .., then 3, then 2", where the lent batch has `batch` bytes
+-- "in the writer, where k 0 means no 0B"
+abbrev pub refusedHeight : ℕ → ℕ → Bool
+refusedHeight rows k = not (eqb k 0) && wrongHeight rows k
+
+-- "1 for a slice of wrong length .., then 3, then 2", where the lent batch has `batch` bytes; 12 "right after 3"
 unfoldable pub writeAnswer : Form → Contents → ℕ → Answer
 unfolding rightLengths
 writeAnswer form contents batch =
     cond (not (rightLengths form contents batch)) (Refused SliceLength)
     (cond (not (leb 1 (rows (contents .trace)) && leb (rows (contents .trace)) MAX-ROWS)) (Refused RowCount)
+    (cond (refusedHeight (rows (contents .trace)) (contents .log2-height)) (Refused HeightOutOfRange)
     (cond (not (allWordsBelow contents)) (Refused WordNotBelowP)
-    Done))
+    Done)))
 
 -- what the lent batch holds then
 unfoldable pub writeBatch : Form → Contents → List ℕ → List ℕ

@@ -1,5 +1,6 @@
 // Write: it decides on its answer first, and writes only then.
 use air::MainIndex;
+use batch_commands::wrong_height;
 use batch_lengths::right_lengths;
 use field_base::all_below;
 use field_montgomery::Form;
@@ -9,12 +10,13 @@ use unchecked::put_batch;
 ghost use mathlib.Core.Path.{_≡_};
 ghost use lib.ListN.{length};
 ghost use Rattle.batch_writer.specs.Contents.{contentsOf};
-ghost use Rattle.batch_writer.specs.Write.{allWordsBelow, writeAnswer, writeBatch};
+ghost use Rattle.batch_writer.specs.Write.{allWordsBelow, refusedHeight, writeAnswer, writeBatch};
 
 mod unchecked;
 
 const MAX_ROWS: usize = 32;
 
+// Of the lists; k is no word.
 fn all_words_below(
     trace: &[u64],
     op_stack: &[u64],
@@ -25,7 +27,7 @@ fn all_words_below(
     input: &[u64],
     output: &[u64],
 ) -> bool
-    ensures { λ r. ⌜ r ≡ allWordsBelow (contentsOf (now (trace .entry)) (now («op_stack» .entry)) (now (ram .entry)) (now («jump_stack» .entry)) (now (sampled .entry)) (now (digest .entry)) (now (input .entry)) (now (output .entry))) ⌝ }
+    ensures { λ r. ⌜ r ≡ allWordsBelow (contentsOf (now (trace .entry)) (now («op_stack» .entry)) (now (ram .entry)) (now («jump_stack» .entry)) (now (sampled .entry)) (now (digest .entry)) (now (input .entry)) (now (output .entry)) 0) ⌝ }
 {
     if !all_below(trace) {
         return false;
@@ -51,7 +53,17 @@ fn all_words_below(
     all_below(output)
 }
 
-// Writes the batch of these contents, its rows in the form, or nothing where it refuses.
+// Whether k is neither 0 nor the height of a table with these rows.
+fn refused_height(rows: usize, log2_height: usize) -> bool
+    ensures { λ r. ⌜ r ≡ refusedHeight rows «log2_height» ⌝ }
+{
+    if log2_height == 0 {
+        return false;
+    }
+    wrong_height(rows, log2_height)
+}
+
+// Writes the batch of these contents, its rows in the form and without 0B for k 0, or nothing where it refuses.
 pub fn write(
     trace: &[u64],
     op_stack: &[u64],
@@ -62,10 +74,11 @@ pub fn write(
     input: &[u64],
     output: &[u64],
     form: Form,
+    log2_height: usize,
     batch: &mut [u8],
 ) -> Answer
-    ensures answer { λ r. ⌜ r ≡ writeAnswer form (contentsOf (now (trace .entry)) (now («op_stack» .entry)) (now (ram .entry)) (now («jump_stack» .entry)) (now (sampled .entry)) (now (digest .entry)) (now (input .entry)) (now (output .entry))) (length (now (batch .entry))) ⌝ }
-    ensures batch { λ r. ⌜ now (batch .exit) ≡ writeBatch form (contentsOf (now (trace .entry)) (now («op_stack» .entry)) (now (ram .entry)) (now («jump_stack» .entry)) (now (sampled .entry)) (now (digest .entry)) (now (input .entry)) (now (output .entry))) (now (batch .entry)) ⌝ }
+    ensures answer { λ r. ⌜ r ≡ writeAnswer form (contentsOf (now (trace .entry)) (now («op_stack» .entry)) (now (ram .entry)) (now («jump_stack» .entry)) (now (sampled .entry)) (now (digest .entry)) (now (input .entry)) (now (output .entry)) «log2_height») (length (now (batch .entry))) ⌝ }
+    ensures batch { λ r. ⌜ now (batch .exit) ≡ writeBatch form (contentsOf (now (trace .entry)) (now («op_stack» .entry)) (now (ram .entry)) (now («jump_stack» .entry)) (now (sampled .entry)) (now (digest .entry)) (now (input .entry)) (now (output .entry)) «log2_height») (now (batch .entry)) ⌝ }
 {
     if !right_lengths(
         trace.len(),
@@ -76,6 +89,7 @@ pub fn write(
         digest.len(),
         input.len(),
         output.len(),
+        log2_height,
         batch.len(),
     ) {
         return Answer::Refused(Refusal::SliceLength);
@@ -86,6 +100,9 @@ pub fn write(
     }
     if MAX_ROWS < rows {
         return Answer::Refused(Refusal::RowCount);
+    }
+    if refused_height(rows, log2_height) {
+        return Answer::Refused(Refusal::HeightOutOfRange);
     }
     if !all_words_below(
         trace,
@@ -109,6 +126,7 @@ pub fn write(
         input,
         output,
         form,
+        log2_height,
         batch,
     );
     Answer::Done

@@ -14,10 +14,11 @@ ghost use Rattle.field_montgomery.specs.Form.{inForm};
 ghost use Rattle.table_rows.specs.Rows.{rows};
 ghost use Rattle.batch_words.specs.Words.{littleEndian, bytesOf};
 ghost use Rattle.batch_words.specs.Pasted.{pasted};
-ghost use Rattle.batch_commands.specs.Format.{TRACE-ROWS, COMMANDS, MAX-ROWS, width, laidOut};
+ghost use Rattle.batch_commands.specs.Format.{TRACE-ROWS, COMMANDS, MAX-ROWS, MAX-LOG-2-HEIGHT, width, laidOut};
 ghost use Rattle.batch_sorted.specs.Sorted.{sorted};
+ghost use Rattle.batch_lengths.specs.Lengths.{heightLength};
 ghost use Rattle.batch_writer.specs.Contents.{contentsOf};
-ghost use Rattle.batch_writer.specs.Layout.{commandsWith, batchOf};
+ghost use Rattle.batch_writer.specs.Layout.{commandsOfHeight, commandsWith, batchOf};
 ghost use Rattle.batch_writer.specs.Write.{rightLengths};
 
 // The first command.
@@ -27,6 +28,20 @@ fn put_trace_rows(batch: &mut [u8], rows: usize)
 {
     batch[0] = batch_commands::TRACE_ROWS as u8;
     write_half(batch, 1, rows as u32);
+}
+
+// 0B behind it, unless k is 0. Answers the place past it.
+fn put_height(batch: &mut [u8], log2_height: usize) -> usize
+    requires { ⌜ («log2_height» ≤ MAX-LOG-2-HEIGHT) × (5 + heightLength «log2_height» ≤ length (now batch)) ⌝ }
+    ensures { λ r. ⌜ r ≡ 5 + heightLength «log2_height» ⌝ }
+    ensures { λ r. ⌜ now (batch .exit) ≡ pasted (now (batch .entry)) 5 (laidOut (commandsOfHeight «log2_height»)) ⌝ }
+{
+    if log2_height == 0 {
+        return 5;
+    }
+    batch[5] = batch_commands::HEIGHT as u8;
+    batch[6] = log2_height as u8;
+    7
 }
 
 fn put_command(batch: &mut [u8], at: usize, code: usize, form: Form, words: &[u64])
@@ -88,15 +103,16 @@ pub fn put_batch(
     input: &[u64],
     output: &[u64],
     form: Form,
+    log2_height: usize,
     batch: &mut [u8],
 )
-    requires { ⌜ rows (now trace) ≤ MAX-ROWS ⌝ }
-    requires { ⌜ rightLengths form (contentsOf (now trace) (now «op_stack») (now ram) (now «jump_stack») (now sampled) (now digest) (now input) (now output)) (length (now batch)) ≡ true ⌝ }
-    ensures { λ r. ⌜ now (batch .exit) ≡ batchOf form (contentsOf (now (trace .entry)) (now («op_stack» .entry)) (now (ram .entry)) (now («jump_stack» .entry)) (now (sampled .entry)) (now (digest .entry)) (now (input .entry)) (now (output .entry))) ⌝ }
+    requires { ⌜ (rows (now trace) ≤ MAX-ROWS) × («log2_height» ≤ MAX-LOG-2-HEIGHT) ⌝ }
+    requires { ⌜ rightLengths form (contentsOf (now trace) (now «op_stack») (now ram) (now «jump_stack») (now sampled) (now digest) (now input) (now output) «log2_height») (length (now batch)) ≡ true ⌝ }
+    ensures { λ r. ⌜ now (batch .exit) ≡ batchOf form (contentsOf (now (trace .entry)) (now («op_stack» .entry)) (now (ram .entry)) (now («jump_stack» .entry)) (now (sampled .entry)) (now (digest .entry)) (now (input .entry)) (now (output .entry)) «log2_height») ⌝ }
 {
     let rows = trace.len() / MainIndex::COUNT;
     put_trace_rows(batch, rows);
-    let mut at: usize = 5;
+    let mut at = put_height(batch, log2_height);
     at = put_commands(batch, at, batch_commands::DIGEST, Form::Plain, digest, 1);
     at = put_commands(
         batch,

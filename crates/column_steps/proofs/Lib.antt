@@ -1,2 +1,3 @@
 -- The running value of a column, row by row.
 pub mod Steps
+pub mod Walk

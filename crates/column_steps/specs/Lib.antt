@@ -1,2 +1,3 @@
--- One row of a column.
+-- One row of a column, and rows one after the other.
 pub mod Step
+pub mod Walk

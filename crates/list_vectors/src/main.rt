@@ -47,7 +47,7 @@ fn same_cells(cells: [u64; 33], bytes: &[u8]) -> bool {
 
 fn agrees(number: u8, batch: &[u8], expected: &[u8]) -> bool {
     let mut cells = [0u64; 33];
-    let answer = terminals_report::last_cells(batch, &mut cells);
+    let answer = terminals_batch::last_cells(batch, &mut cells);
     if refusal::answer_number(answer) != number as u32 {
         return false;
     }

@@ -1,7 +1,7 @@
 -- The number that documents 01 and 02 give each refusal.
 use Prim.Native.Nat.{ℕ}
 use Rattle.refusal.specs.declared.Refusal.{Refusal}
-use Rattle.refusal.specs.declared.Refusal.the-variants.{SliceLength, WordNotBelowP, RowCount, DifferenceTooLarge, ChunkLengthZero, ZeroDenominator, UnknownCommand, BatchCutOff, CommandOutOfPlace, CommandOutOfOrder, UndecodableRow}
+use Rattle.refusal.specs.declared.Refusal.the-variants.{SliceLength, WordNotBelowP, RowCount, DifferenceTooLarge, ChunkLengthZero, ZeroDenominator, UnknownCommand, BatchCutOff, CommandOutOfPlace, CommandOutOfOrder, UndecodableRow, HeightOutOfRange}
 use Rattle.refusal.specs.declared.Answer.{Answer}
 use Rattle.refusal.specs.declared.Answer.the-variants.{Done, Refused}
 
@@ -17,6 +17,7 @@ numberOf BatchCutOff = 8
 numberOf CommandOutOfPlace = 9
 numberOf CommandOutOfOrder = 10
 numberOf UndecodableRow = 11
+numberOf HeightOutOfRange = 12
 
 -- 0 for an operation that was done
 abbrev pub answerNumberOf : Answer → ℕ

@@ -17,6 +17,7 @@ pub enum Refusal {
     CommandOutOfPlace,
     CommandOutOfOrder,
     UndecodableRow,
+    HeightOutOfRange,
 }
 
 // The answer of an operation that has no value of its own.
@@ -25,7 +26,7 @@ pub enum Answer {
     Refused(Refusal),
 }
 
-// The refusal's number, 1 to 11.
+// The refusal's number, 1 to 12.
 pub fn number(refusal: Refusal) -> u32
     ensures { λ r. ⌜ r ≡ numberOf refusal ⌝ }
 {
@@ -41,6 +42,7 @@ pub fn number(refusal: Refusal) -> u32
         Refusal::CommandOutOfPlace => 9,
         Refusal::CommandOutOfOrder => 10,
         Refusal::UndecodableRow => 11,
+        Refusal::HeightOutOfRange => 12,
     }
 }
 

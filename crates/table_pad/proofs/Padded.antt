@@ -1,12 +1,13 @@
 -- What pad's answer says of the table, and the padded table as the trace's rows with padding below them.
 use mathlib.Core.Path.{_≡_, ap, _∙_}
 use mathlib.Core.Bool.{not, _||_}
-use mathlib.Core.List.{List, append-nil}
+use mathlib.Core.List.{List, [], _∷_, append-nil}
 use Prim.Native.Nat.{ℕ, _+_, _-_, _*_, _%_, _≤_, _<_}
 use native.Mathlib.Nat.{zero-add}
 use native.Mathlib.Omega.{arith}
 use lib.Dec.{eqb, ltb}
-use lib.ListN.{length, drop-of-length-le}
+use lib.ListN.{length, set, drop-of-length-le}
+use lib.Seq.{set-set}
 use borrow.Author.Tests.{ltb-false, leb-true, eqb-true, eqb-false, not-false, lt-ltb, le-ltb}
 use Rattle.refusal.specs.Long.{isLong}
 use Rattle.refusal.specs.declared.Answer.the-variants.{Done}
@@ -62,3 +63,15 @@ module _ (table : List ℕ) (len : ℕ) where
         drop-of-length-le table h,
         append-nil,
       )
+
+-- padding like a padding row, and its multiplicity
+module _ (c : ℕ) where
+  pub padding-again : (row : List ℕ) → length row ≡ 39 → (a : ℕ) → paddingRow (paddingRow row a) c ≡ paddingRow row c
+  padding-again [] e a = cc
+  padding-again (x ∷ []) e a = cc
+  padding-again (x ∷ y ∷ rest) e a = ap (λ (l : List ℕ). c ∷ 1 ∷ l) (set-set rest 36 0 0)
+
+  pub padding-without : (row : List ℕ) → length row ≡ 39 → set (paddingRow row c) 38 0 ≡ paddingRow row c
+  padding-without [] e = cc
+  padding-without (x ∷ []) e = cc
+  padding-without (x ∷ y ∷ rest) e = ap (λ (l : List ℕ). c ∷ 1 ∷ l) (set-set rest 36 0 0)

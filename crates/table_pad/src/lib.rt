@@ -13,6 +13,8 @@ ghost use Rattle.table_rows.specs.Writes.{withRows};
 ghost use Rattle.table_pad.specs.Height.{height};
 ghost use Rattle.table_pad.specs.Pad.{padAnswer, padTable, paddingRow};
 
+pub mod unchecked;
+
 // Copies the last row of the trace downward as padding, or writes nothing where it refuses.
 pub fn pad(table: &mut [u64], table_len: usize) -> Answer
     ensures answer { λ r. ⌜ r ≡ padAnswer (now (table .entry)) «table_len» ⌝ }
@@ -49,7 +51,7 @@ fn pad_answer(table: &[u64], table_len: usize) -> Answer
 }
 
 // A padding row like `last`, at the clock c.
-fn padding_row(last: [u64; MainIndex::COUNT], c: usize) -> [u64; MainIndex::COUNT]
+pub fn padding_row(last: [u64; MainIndex::COUNT], c: usize) -> [u64; MainIndex::COUNT]
     ensures { λ r. ⌜ r ≡ paddingRow last c ⌝ }
 {
     let is_padding = MainIndex::IS_PADDING.0;

@@ -124,6 +124,16 @@ module _ (width : ℕ) (row : ℕ → List ℕ) (n : ℕ) (rest : List ℕ) (who
         here,
       )
 
+-- a row of rows one after the other
+pub row-in-rows : (row : ℕ → List ℕ) (n : ℕ) → Whole 39 row 0 n → (d : ℕ) → d < n → rowAt (rowsFrom row 0 n) d ≡ row d
+unfolding rowsFrom
+row-in-rows row n whole d h =
+    let rest = rowsFrom row (suc d) (n - suc d) in
+    let e : n ≡ d + suc (n - suc d) = omega arith in
+    let front = length-rows 39 row 0 d (λ k l m. whole k l (omega arith)) in
+    ap (λ (k : ℕ). rowAt (rowsFrom row 0 k) d) e
+    ∙ rw (split-rows row 0 d (suc (n - suc d)), zero-add, drop-at (rowsFrom row 0 d) (row d ++ rest) (d * 39) front, take-at (row d) rest 39 (whole d (omega arith) (omega arith)))
+
 -- a row of `width` words
 pub put-row : (width : ℕ) (table : List ℕ) (c : ℕ) (row : List ℕ) → length row ≡ width → suc c * width ≤ length table
     → sets table (c * width) row ≡ withRow width table c row

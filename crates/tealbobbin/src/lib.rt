@@ -24,6 +24,7 @@ ghost use Rattle.extend.specs.Extend.{extendAux, extendWork, strictAux, strictW
 ghost use Rattle.batch.specs.Open.{openNumber};
 ghost use Rattle.batch_writer.specs.Contents.{contentsOf};
 ghost use Rattle.batch_writer.specs.Write.{writeAnswer, writeBatch};
+ghost use Rattle.terminals_batch.specs.Into.{terminalsInto, cellsInto};
 ghost use Rattle.tealbobbin_answers.specs.Open.{slices, openInto, slicesAfter};
 ghost use Rattle.tealbobbin_answers.specs.Write.{toldForm};
 ghost use Rattle.tealbobbin_answers.specs.Decode.{decodeNumberInto, decodeInto};
@@ -311,7 +312,7 @@ pub extern "C" fn tealbobbin_open(
         (slices (now (trace .entry)) (now («op_stack» .entry)) (now (ram .entry)) (now («jump_stack» .entry)) (now (sampled .entry))
         (now (digest .entry)) (now (input .entry)) (now (output .entry)) (now (counts .entry))) ⌝ }
 {
-    if counts.len() != 6 {
+    if counts.len() != 7 {
         return 1;
     }
     let answer = batch::open(
@@ -328,7 +329,7 @@ pub extern "C" fn tealbobbin_open(
     put_counts(answer, counts)
 }
 
-// Writes the batch of the given contents, its rows as 02 if `form` is 0, else as 0A. The lists of differences come in any order.
+// Writes the batch of the given contents, its rows as 02 if `form` is 0, else as 0A, and without 0B if k is 0. The lists of differences come in any order.
 #[no_mangle]
 pub extern "C" fn tealbobbin_write(
     trace: &[u64],
@@ -340,15 +341,16 @@ pub extern "C" fn tealbobbin_write(
     input: &[u64],
     output: &[u64],
     form: u64,
+    k: u64,
     batch: &mut [u8],
 ) -> u32
     ensures number { λ r. ⌜ r ≡ answerNumberOf (writeAnswer (toldForm form)
         (contentsOf (now (trace .entry)) (now («op_stack» .entry)) (now (ram .entry)) (now («jump_stack» .entry)) (now (sampled .entry))
-        (now (digest .entry)) (now (input .entry)) (now (output .entry)))
+        (now (digest .entry)) (now (input .entry)) (now (output .entry)) k)
         (length (now (batch .entry)))) ⌝ }
     ensures written { λ r. ⌜ now (batch .exit) ≡ writeBatch (toldForm form)
         (contentsOf (now (trace .entry)) (now («op_stack» .entry)) (now (ram .entry)) (now («jump_stack» .entry)) (now (sampled .entry))
-        (now (digest .entry)) (now (input .entry)) (now (output .entry)))
+        (now (digest .entry)) (now (input .entry)) (now (output .entry)) k)
         (now (batch .entry)) ⌝ }
 {
     refusal::answer_number(batch_writer::write(
@@ -361,6 +363,16 @@ pub extern "C" fn tealbobbin_write(
         input,
         output,
         told_form(form),
+        k as usize,
         batch,
     ))
+}
+
+// The cells of the last row of the table that the batch leads to, 33 words: what the program `terminals` prints.
+#[no_mangle]
+pub extern "C" fn tealbobbin_terminals(batch: &[u8], cells: &mut [u64]) -> u32
+    ensures number { λ r. ⌜ r ≡ answerNumberOf (terminalsInto (now (batch .entry)) (now (cells .entry))) ⌝ }
+    ensures written { λ r. ⌜ now (cells .exit) ≡ cellsInto (now (batch .entry)) (now (cells .entry)) ⌝ }
+{
+    refusal::answer_number(terminals_batch::terminals(batch, cells))
 }

@@ -1,4 +1,4 @@
--- Open at the ABI: `counts` is to have six words, else 1 and nothing is opened.
+-- Open at the ABI: `counts` is to have seven words, else 1 and nothing is opened.
 use mathlib.Core.Bool.{cond}
 use mathlib.Core.List.{List}
 use Prim.Native.Nat.{ℕ}
@@ -38,7 +38,7 @@ slices trace op-stack ram jump-stack sampled digest input output counts =
 
 unfoldable pub openInto : List ℕ → Slices → OpenAnswer
 openInto batch lent =
-    cond (eqb (length (lent .counts)) 6)
+    cond (eqb (length (lent .counts)) 7)
     (openAnswer batch (length (lent .trace)) (length (lent .op-stack)) (length (lent .ram)) (length (lent .jump-stack)) (length (lent .sampled))
     (length (lent .digest)) (length (lent .input)) (length (lent .output)))
     (Refused SliceLength)

@@ -5,9 +5,9 @@ ghost use lib.ListN.{length};
 ghost use Rattle.batch.specs.Open.{openNumber};
 ghost use Rattle.tealbobbin_answers.specs.Open.{countsInto};
 
-// Hands the counts of an opened batch out through a slice of six words.
+// Hands the counts of an opened batch out through a slice of seven words.
 pub fn put_counts(answer: OpenAnswer, counts: &mut [u64]) -> u32
-    requires { ⌜ length (now counts) ≡ 6 ⌝ }
+    requires { ⌜ length (now counts) ≡ 7 ⌝ }
     ensures number { λ r. ⌜ r ≡ openNumber answer ⌝ }
     ensures counts { λ r. ⌜ now (counts .exit) ≡ countsInto answer (now (counts .entry)) ⌝ }
 {
@@ -20,6 +20,7 @@ pub fn put_counts(answer: OpenAnswer, counts: &mut [u64]) -> u32
             counts[3] = opened.jump_stack as u64;
             counts[4] = opened.input as u64;
             counts[5] = opened.output as u64;
+            counts[6] = opened.log2_height as u64;
             0
         }
     }

@@ -1,48 +1,28 @@
 -- "opens a batch, derives the challenges, fills, pads, extends with chunk length 4": the first refusal, or the last row's cells.
 use mathlib.Core.List.{List, []}
-use Prim.Native.Nat.{ℕ, _-_, _*_}
-use lib.ListN.{length, take, drop}
+use Prim.Native.Nat.{ℕ, _*_}
+use lib.ListN.{take}
 use Rattle.refusal.specs.declared.Answer.{Answer}
 use Rattle.refusal.specs.declared.Answer.the-variants.{Done, Refused}
 use Rattle.air.specs.MainColumn.{MAIN-WIDTH}
-use Rattle.air.specs.AuxColumn.{AUX-WORDS}
 use Rattle.air.specs.ChallengeId.{RECORD-WORDS, SAMPLED-WORDS, DIGEST-WORDS}
 use Rattle.table_rows.specs.Rows.{rows}
 use Rattle.table_fill.specs.Fill.{fillAnswer, fillTable}
 use Rattle.table_pad.specs.Pad.{padAnswer, padTable}
 use Rattle.challenges.specs.Derived.{challengesAnswer, challengesRecord}
-use Rattle.extend_answer.specs.Answer.{extendAnswer, WORK-WORDS}
-use Rattle.extend.specs.Extend.{extendAux}
 use Rattle.batch_reader.specs.declared.Counts.{Counts}
 use Rattle.batch_reader.specs.declared.OpenAnswer.{OpenAnswer}
 use Rattle.batch_reader.specs.declared.OpenAnswer.the-variants.{Opened, Refused as NotOpened}
 use Rattle.batch_commands.specs.Format.{ROW, OP-STACK, RAM, JUMP-STACK, SAMPLED, DIGEST, INPUT, OUTPUT, MAX-DIFFERENCES, MAX-WORDS}
 use Rattle.batch.specs.Open.{TRACE-WORDS, openAnswer, openSlice}
 use Rattle.batch.specs.Lent.{zeros}
-use Rattle.table_pad.specs.Height.{height}
+use Rattle.terminals_extended.specs.Extended.{extendedAnswer, extendedCells}
+use Rattle.table_pad.specs.Height.{paddedHeight}
 
 -- the first refusal of two operations
 abbrev pub after : Answer → Answer → Answer
 after Done next = next
 after (Refused refusal) next = Refused refusal
-
--- the words of the last row
-abbrev pub lastRow : List ℕ → List ℕ
-lastRow aux = drop (length aux - AUX-WORDS) aux
-
--- extend, with chunk length 4
-module _ (main challenges : List ℕ) where
-  abbrev aux : List ℕ
-  aux = zeros (rows main * AUX-WORDS)
-
-  abbrev work : List ℕ
-  work = zeros (rows main * WORK-WORDS)
-
-  unfoldable pub extendedAnswer : Answer
-  extendedAnswer = extendAnswer main challenges 4 aux work
-
-  unfoldable pub extendedCells : List ℕ
-  extendedCells = lastRow (extendAux main challenges 4 aux work)
 
 -- pad, then extend
 module _ (table : List ℕ) (len : ℕ) (challenges : List ℕ) where
@@ -62,13 +42,13 @@ module _ (trace op-stack ram jump-stack challenges table : List ℕ) where
   unfoldable pub filledCells : List ℕ
   filledCells = paddedCells (fillTable trace op-stack ram jump-stack table) (rows trace) challenges
 
--- the same in the table that holds the trace
-module _ (trace op-stack ram jump-stack challenges : List ℕ) where
+-- the same in the table that holds the trace, or has 2^k rows
+module _ (k : ℕ) (trace op-stack ram jump-stack challenges : List ℕ) where
   unfoldable pub tableAnswer : Answer
-  tableAnswer = filledAnswer trace op-stack ram jump-stack challenges (zeros (height (rows trace) * MAIN-WIDTH))
+  tableAnswer = filledAnswer trace op-stack ram jump-stack challenges (zeros (paddedHeight k (rows trace) * MAIN-WIDTH))
 
   unfoldable pub tableCells : List ℕ
-  tableCells = filledCells trace op-stack ram jump-stack challenges (zeros (height (rows trace) * MAIN-WIDTH))
+  tableCells = filledCells trace op-stack ram jump-stack challenges (zeros (paddedHeight k (rows trace) * MAIN-WIDTH))
 
 -- the slices up to the counts: derive the challenges, fill, pad and extend
 module _ (counts : Counts) (trace op-stack ram jump-stack sampled digest input output : List ℕ) where
@@ -77,14 +57,14 @@ module _ (counts : Counts) (trace op-stack ram jump-stack sampled digest input o
       let read = take (counts .input) input in
       let wrote = take (counts .output) output in
       after (challengesAnswer sampled digest read wrote (zeros RECORD-WORDS))
-      (tableAnswer (take (counts .rows * MAIN-WIDTH) trace) (take (counts .«op_stack») op-stack) (take (counts .ram) ram) (take (counts .«jump_stack») jump-stack)
+      (tableAnswer (counts .«log2_height») (take (counts .rows * MAIN-WIDTH) trace) (take (counts .«op_stack») op-stack) (take (counts .ram) ram) (take (counts .«jump_stack») jump-stack)
       (challengesRecord sampled digest read wrote (zeros RECORD-WORDS)))
 
   unfoldable pub openedCells : List ℕ
   openedCells =
       let read = take (counts .input) input in
       let wrote = take (counts .output) output in
-      tableCells (take (counts .rows * MAIN-WIDTH) trace) (take (counts .«op_stack») op-stack) (take (counts .ram) ram) (take (counts .«jump_stack») jump-stack)
+      tableCells (counts .«log2_height») (take (counts .rows * MAIN-WIDTH) trace) (take (counts .«op_stack») op-stack) (take (counts .ram) ram) (take (counts .«jump_stack») jump-stack)
       (challengesRecord sampled digest read wrote (zeros RECORD-WORDS))
 
 -- with what opening leaves in slices of zeros

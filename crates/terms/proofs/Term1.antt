@@ -11,7 +11,7 @@ use Rattle.algebra.specs.Modulus.{p}
 use Rattle.refusal.specs.Number.{numberOf, answerNumberOf, onDone}
 use Rattle.refusal.specs.Long.{isLong}
 use Rattle.refusal.specs.declared.Refusal.{Refusal}
-use Rattle.refusal.specs.declared.Refusal.the-variants.{SliceLength, WordNotBelowP, RowCount, DifferenceTooLarge, ChunkLengthZero, ZeroDenominator, UnknownCommand, BatchCutOff, CommandOutOfPlace, CommandOutOfOrder, UndecodableRow}
+use Rattle.refusal.specs.declared.Refusal.the-variants.{SliceLength, WordNotBelowP, RowCount, DifferenceTooLarge, ChunkLengthZero, ZeroDenominator, UnknownCommand, BatchCutOff, CommandOutOfPlace, CommandOutOfOrder, UndecodableRow, HeightOutOfRange}
 use Rattle.refusal.specs.declared.Answer.{Answer}
 use Rattle.refusal.specs.declared.Answer.the-variants.{Done, Refused}
 use Rattle.field_base.specs.Words.{allBelow}
@@ -46,7 +46,7 @@ use Rattle.extend_answer.specs.Strict.{undecodable, behindEleven, strictAnswer}
 use Rattle.extend.specs.Extend.{extendAux, extendWork, strictAux, strictWork}
 use Rattle.batch_commands.specs.declared.Seen.{Seen}
 use Rattle.batch_commands.specs.Format.{END, COMMANDS, width, wordsIn, MAX-ROWS, Command}
-use Rattle.batch_commands.specs.Fault.{outOfPlace, outOfOrder, wrongRowCount, judged, fault}
+use Rattle.batch_commands.specs.Fault.{outOfPlace, outOfOrder, wrongRowCount, heightOutOfRange, judged, fault}
 use Rattle.batch_reader.specs.Commands.{seenIn}
 use Rattle.batch_reader.specs.Reading.{Reading, read, unless, readFrom, reading}
 use Rattle.batch_reader.specs.Answers.{answerOf}
@@ -54,6 +54,12 @@ use Rattle.batch_reader.specs.declared.OpenAnswer.{OpenAnswer}
 use Rattle.batch_reader.specs.declared.OpenAnswer.the-variants as open-answer
 use Rattle.batch.specs.Open as batch
 use Rattle.batch.specs.Open.{openNumber, openAnswer, openSlice}
+use Rattle.batch.specs.Lent.{zeros}
+use Rattle.batch_reader.specs.declared.Counts.{Counts}
+use Rattle.table_pad.specs.Height.{paddedHeight}
+use Rattle.terminals_extended.specs.Extended.{extendedAnswer}
+use Rattle.terminals_cells.specs.Terminals.{after, paddedAnswer, filledAnswer, tableAnswer, openedAnswer, answerAfter, terminalsAnswer, terminalsCells}
+use Rattle.terminals_batch.specs.Into.{terminalsInto, cellsInto}
 use Rattle.tealbobbin_answers.specs.Write.{toldForm}
 use Rattle.batch_writer.specs.Layout.{batchOf}
 use Rattle.batch_writer.specs.Write as writer
@@ -180,6 +186,28 @@ two-slices : {line : List ℕ} (answer : Answer) → answerNumberOf answer ∈ 0
 two-slices Done f r₁ s₁ r₂ s₂ = done
 two-slices (Refused r) f r₁ s₁ r₂ s₂ = refused f (refl, refl)
 
+-- the tests of some operations, each with its refusal
+abbrev challengesTests : List ℕ → List ℕ → List ℕ → List ℕ → List ℕ → Tests
+challengesTests sampled digest input output lent =
+    (not (challenges.rightLengths sampled digest input output lent), SliceLength)
+    ∷ (not (allWordsBelow sampled digest input output), WordNotBelowP)
+    ∷ []
+
+abbrev fillTests : List ℕ → List ℕ → List ℕ → List ℕ → List ℕ → Tests
+fillTests trace op-stack ram jump-stack table =
+    (not (wholeRows trace && wholeRows table) || isLong (length op-stack) || isLong (length ram) || isLong (length jump-stack), SliceLength)
+    ∷ (isLong (rows table) || ltb (rows table) (rows trace), RowCount)
+    ∷ (not (allBelow trace && allBelow op-stack && allBelow ram && allBelow jump-stack), WordNotBelowP)
+    ∷ (not (allUnder (rows trace) op-stack && allUnder (rows trace) ram && allUnder (rows trace) jump-stack), DifferenceTooLarge)
+    ∷ []
+
+abbrev padTests : List ℕ → ℕ → Tests
+padTests table len =
+    (not (wholeRows table), SliceLength)
+    ∷ (ltb (rows table) 2 || isLong (rows table) || eqb len 0 || ltb (rows table) len, RowCount)
+    ∷ (not (allBelow (take (len * MAIN-WIDTH) table)), WordNotBelowP)
+    ∷ []
+
 abbrev extendTests : List ℕ → List ℕ → ℕ → List ℕ → List ℕ → Tests
 extendTests main challenges chunk aux work =
     (not (extension.rightLengths main challenges aux work), SliceLength)
@@ -200,11 +228,11 @@ abbrev readNumber : Reading → ℕ
 readNumber r = openNumber (answerOf r)
 
 -- the refusals of a batch's commands
-module _ (line : List ℕ) (t : T (every (stands line) (7 ∷ 8 ∷ 9 ∷ 10 ∷ 3 ∷ 2 ∷ []))) where
+module _ (line : List ℕ) (t : T (every (stands line) (7 ∷ 8 ∷ 9 ∷ 10 ∷ 3 ∷ 12 ∷ 2 ∷ []))) where
   cut-off : 8 ∈ 0 ∷ line
   cut-off =
-      let later = and-both (stands line 7) (every (stands line) (8 ∷ 9 ∷ 10 ∷ 3 ∷ 2 ∷ [])) t .1 in
-      listed BatchCutOff (and-both (stands line 8) (every (stands line) (9 ∷ 10 ∷ 3 ∷ 2 ∷ [])) later .0)
+      let later = and-both (stands line 7) (every (stands line) (8 ∷ 9 ∷ 10 ∷ 3 ∷ 12 ∷ 2 ∷ [])) t .1 in
+      listed BatchCutOff (and-both (stands line 8) (every (stands line) (9 ∷ 10 ∷ 3 ∷ 12 ∷ 2 ∷ [])) later .0)
 
   command : (seen : Seen) (code : ℕ) (bytes : List ℕ) → answerNumberOf (fault seen code bytes) ∈ 0 ∷ line
   unfolding fault judged
@@ -215,6 +243,7 @@ module _ (line : List ℕ) (t : T (every (stands line) (7 ∷ 8 ∷ 9 ∷ 10 ∷
       ∷ (outOfPlace (seen .rows) (seen .came) code (length bytes - width code), CommandOutOfPlace)
       ∷ (outOfOrder seen code bytes, CommandOutOfOrder)
       ∷ (wrongRowCount code (take (width code) bytes), RowCount)
+      ∷ (heightOutOfRange (seen .rows) code (take (width code) bytes), HeightOutOfRange)
       ∷ (not (allBelow (wordsIn code bytes)), WordNotBelowP)
       ∷ []) t
 
@@ -233,6 +262,65 @@ module _ (line : List ℕ) (t : T (every (stands line) (7 ∷ 8 ∷ 9 ∷ 10 ∷
       (command (seenIn before) code bytes)
       (chosen readNumber (eqb code END) (read before) rest zero-listed (batch-read n next (drop (width code) bytes)))
 
+-- one operation after the other: open, challenges, fill, pad and extend, whose chunk length 4 is not 0
+abbrev terminalsLine : List ℕ
+terminalsLine = 1 ∷ 7 ∷ 8 ∷ 9 ∷ 10 ∷ 3 ∷ 12 ∷ 2 ∷ 4 ∷ 6 ∷ []
+
+abbrev Ends : Answer → Type 0
+Ends answer = answerNumberOf answer ∈ 0 ∷ terminalsLine
+
+in-turn : (a b : Answer) → Ends a → Ends b → Ends (after a b)
+in-turn Done b f g = g
+in-turn (Refused refusal) b f g = f
+
+module _ (record-words : List ℕ) where
+  extended-ends : (main : List ℕ) → Ends (extendedAnswer main record-words)
+  unfolding extendedAnswer extendAnswer
+  extended-ends main =
+      by-refusals
+      ((not (extension.rightLengths main record-words (zeros (rows main * 33)) (zeros (rows main * 6))), SliceLength)
+      ∷ (wrongRows main, RowCount)
+      ∷ (wrongWords main record-words, WordNotBelowP)
+      ∷ (zeroDenominator main record-words, ZeroDenominator)
+      ∷ []) tt
+
+  padded-ends : (table : List ℕ) (len : ℕ) → Ends (paddedAnswer table len record-words)
+  unfolding paddedAnswer padAnswer
+  padded-ends table len = in-turn (padAnswer table len) (extendedAnswer (padTable table len) record-words) (by-refusals (padTests table len) tt) (extended-ends (padTable table len))
+
+  table-ends : (k : ℕ) (trace op-stack ram jump-stack : List ℕ) → Ends (tableAnswer k trace op-stack ram jump-stack record-words)
+  unfolding tableAnswer filledAnswer fillAnswer
+  table-ends k trace op-stack ram jump-stack =
+      let table = zeros (paddedHeight k (rows trace) * 39) in
+      let filled-table = fillTable trace op-stack ram jump-stack table in
+      in-turn (fillAnswer trace op-stack ram jump-stack table) (paddedAnswer filled-table (rows trace) record-words)
+      (by-refusals (fillTests trace op-stack ram jump-stack table) tt) (padded-ends filled-table (rows trace))
+
+opened-ends : (counts : Counts) (trace op-stack ram jump-stack sampled digest input output : List ℕ) → Ends (openedAnswer counts trace op-stack ram jump-stack sampled digest input output)
+unfolding openedAnswer challengesAnswer
+opened-ends counts trace op-stack ram jump-stack sampled digest input output =
+    let read-words = take (counts .input) input in
+    let wrote = take (counts .output) output in
+    let lent = zeros 189 in
+    let derived = challengesRecord sampled digest read-words wrote lent in
+    let rows-sent = take (counts .rows * 39) trace in
+    let o = take (counts .«op_stack») op-stack in
+    let r = take (counts .ram) ram in
+    let j = take (counts .«jump_stack») jump-stack in
+    in-turn (challengesAnswer sampled digest read-words wrote lent) (tableAnswer (counts .«log2_height») rows-sent o r j derived)
+    (by-refusals (challengesTests sampled digest read-words wrote lent) tt) (table-ends derived (counts .«log2_height») rows-sent o r j)
+
+after-open : (a : OpenAnswer) (bytes : List ℕ) → openNumber a ∈ 0 ∷ terminalsLine → Ends (answerAfter a bytes)
+after-open (open-answer.Refused refusal) bytes f = f
+after-open (open-answer.Opened counts) bytes f = opened-ends counts _ _ _ _ _ _ _ _
+
+terminals-end : (bytes : List ℕ) → Ends (terminalsAnswer bytes)
+unfolding terminalsAnswer openAnswer reading
+terminals-end bytes =
+    after-open (openAnswer bytes 1248 128 128 128 177 5 64 64) bytes
+    (by-tests open-answer.Refused openNumber (λ r. refl) ((ltb batch.MAX-BYTES (length bytes) || false, SliceLength) ∷ []) tt
+    (answerOf (reading bytes)) (batch-read _ tt (length bytes) [] bytes))
+
 module _ (bytes : List ℕ) (lent : Slices) where
   open-kept : {line : List ℕ} (answer : OpenAnswer) → openNumber answer ∈ 0 ∷ line
       → Answers line (openNumber answer) (slicesBy answer bytes lent ≡ lent)
@@ -241,7 +329,7 @@ module _ (bytes : List ℕ) (lent : Slices) where
   open-kept (open-answer.Refused r) f = refused f refl
 
 pub term1 : Term1
-unfolding decodeAnswer challengesAnswer challengesRecord fillAnswer fillTable padAnswer padTable extendAnswer extendAux extendWork strictAnswer strictAux strictWork openInto openAnswer reading writeAnswer writeBatch
+unfolding decodeAnswer challengesAnswer challengesRecord fillAnswer fillTable padAnswer padTable extendAnswer extendAux extendWork strictAnswer strictAux strictWork openInto openAnswer reading writeAnswer writeBatch terminalsInto cellsInto
 term1 =
     record {
       base-add = λ a b. word-checked (ltb a p && ltb b p) (base.plus a b);
@@ -271,30 +359,18 @@ term1 =
           out);
       challenges = λ sampled digest input output lent.
           on-done (challengesAnswer sampled digest input output lent)
-          (by-refusals
-          ((not (challenges.rightLengths sampled digest input output lent), SliceLength)
-          ∷ (not (allWordsBelow sampled digest input output), WordNotBelowP)
-          ∷ []) tt)
+          (by-refusals (challengesTests sampled digest input output lent) tt)
           (derivedRecord sampled digest input output) lent;
       scan-maps = scans tt 6 scannedMaps;
       scan-products = scans tt 3 scannedProducts;
       scan-sums = scans tt 3 scannedSums;
       fill = λ trace op-stack ram jump-stack table.
           on-done (fillAnswer trace op-stack ram jump-stack table)
-          (by-refusals
-          ((not (wholeRows trace && wholeRows table) || isLong (length op-stack) || isLong (length ram) || isLong (length jump-stack), SliceLength)
-          ∷ (isLong (rows table) || ltb (rows table) (rows trace), RowCount)
-          ∷ (not (allBelow trace && allBelow op-stack && allBelow ram && allBelow jump-stack), WordNotBelowP)
-          ∷ (not (allUnder (rows trace) op-stack && allUnder (rows trace) ram && allUnder (rows trace) jump-stack), DifferenceTooLarge)
-          ∷ []) tt)
+          (by-refusals (fillTests trace op-stack ram jump-stack table) tt)
           (filled trace (multiplicity op-stack ram jump-stack) table) table;
       pad = λ table len.
           on-done (padAnswer table len)
-          (by-refusals
-          ((not (wholeRows table), SliceLength)
-          ∷ (ltb (rows table) 2 || isLong (rows table) || eqb len 0 || ltb (rows table) len, RowCount)
-          ∷ (not (allBelow (take (len * MAIN-WIDTH) table)), WordNotBelowP)
-          ∷ []) tt)
+          (by-refusals (padTests table len) tt)
           (padded table len) table;
       extend = λ main challenges chunk aux work.
           two-slices (extendAnswer main challenges chunk aux work) (by-refusals (extendTests main challenges chunk aux work) tt)
@@ -311,8 +387,8 @@ term1 =
           let lengths = batch.rightLengths (length (lent .trace)) (length (lent .op-stack)) (length (lent .ram)) (length (lent .jump-stack)) (length (lent .sampled))
           (length (lent .digest)) (length (lent .input)) (length (lent .output)) in
           open-kept bytes lent
-          (cond (eqb (length (lent .counts)) 6) answer (open-answer.Refused SliceLength))
-          (chosen openNumber (eqb (length (lent .counts)) 6) answer (open-answer.Refused SliceLength)
+          (cond (eqb (length (lent .counts)) 7) answer (open-answer.Refused SliceLength))
+          (chosen openNumber (eqb (length (lent .counts)) 7) answer (open-answer.Refused SliceLength)
           (by-tests open-answer.Refused openNumber (λ r. refl) ((ltb batch.MAX-BYTES (length bytes) || not lengths, SliceLength) ∷ []) tt
           (answerOf (reading bytes)) (batch-read _ tt (length bytes) [] bytes))
           (listed SliceLength tt));
@@ -321,7 +397,12 @@ term1 =
           (by-refusals
           ((not (writer.rightLengths (toldForm form) contents (length bytes)), SliceLength)
           ∷ (not (leb 1 (rows (contents .trace)) && leb (rows (contents .trace)) MAX-ROWS), RowCount)
+          ∷ (writer.refusedHeight (rows (contents .trace)) (contents .log2-height), HeightOutOfRange)
           ∷ (not (writer.allWordsBelow contents), WordNotBelowP)
           ∷ []) tt)
           (batchOf (toldForm form) contents) bytes;
+      terminals = λ bytes cells.
+          on-done (terminalsInto bytes cells)
+          (chosen answerNumberOf (eqb (length cells) 33) (terminalsAnswer bytes) (Refused SliceLength) (terminals-end bytes) (listed SliceLength tt))
+          (terminalsCells bytes) cells;
     }

@@ -27,6 +27,7 @@ use Rattle.batch_writer.specs.Contents.{Contents}
 use Rattle.batch_writer.specs.Write.{writeAnswer, writeBatch}
 use Rattle.tealbobbin_answers.specs.Field.{baseNumberInto, baseInto, unaryNumber, unaryOut, binaryNumber, binaryOut}
 use Rattle.tealbobbin_answers.specs.Decode.{decodeNumberInto, decodeInto}
+use Rattle.terminals_batch.specs.Into.{terminalsInto, cellsInto}
 use Rattle.tealbobbin_answers.specs.Write.{toldForm}
 use Rattle.tealbobbin_answers.specs.Open.{Slices, openInto, slicesAfter}
 
@@ -89,6 +90,8 @@ pub record Term1 : Type 0 where
       → Answers (1 ∷ 3 ∷ 5 ∷ 2 ∷ 11 ∷ 6 ∷ []) (answerNumberOf (strictAnswer main challenges chunk aux work))
       ((strictAux main challenges chunk aux work ≡ aux) × (strictWork main challenges chunk aux work ≡ work))
   pub open-batch : (batch : List ℕ) (lent : Slices)
-      → Answers (1 ∷ 7 ∷ 8 ∷ 9 ∷ 10 ∷ 3 ∷ 2 ∷ []) (openNumber (openInto batch lent)) (slicesAfter batch lent ≡ lent)
+      → Answers (1 ∷ 7 ∷ 8 ∷ 9 ∷ 10 ∷ 3 ∷ 12 ∷ 2 ∷ []) (openNumber (openInto batch lent)) (slicesAfter batch lent ≡ lent)
   pub write-batch : (contents : Contents) (form : ℕ) (batch : List ℕ)
-      → Answers (1 ∷ 3 ∷ 2 ∷ []) (answerNumberOf (writeAnswer (toldForm form) contents (length batch))) (writeBatch (toldForm form) contents batch ≡ batch)
+      → Answers (1 ∷ 3 ∷ 12 ∷ 2 ∷ []) (answerNumberOf (writeAnswer (toldForm form) contents (length batch))) (writeBatch (toldForm form) contents batch ≡ batch)
+  pub terminals : (batch cells : List ℕ)
+      → Answers (1 ∷ 7 ∷ 8 ∷ 9 ∷ 10 ∷ 3 ∷ 12 ∷ 2 ∷ 4 ∷ 6 ∷ []) (answerNumberOf (terminalsInto batch cells)) (cellsInto batch cells ≡ cells)

@@ -6,7 +6,7 @@ use Prim.Native.Nat.{ℕ, suc, _≤_, _<_}
 use native.Mathlib.Omega.{arith}
 use lib.Dec.{eqb, leb, ltb, lit<, lit≤}
 use borrow.Author.Tests.{ltb-true, leb-true, leb-false, le-leb, lt-leb, eqb-true, eqb-false, eq-eqb, ne-eqb}
-use Rattle.batch_commands.specs.Format.{END, TRACE-ROWS, ROW, OP-STACK, RAM, JUMP-STACK, SAMPLED, DIGEST, INPUT, OUTPUT, MONTGOMERY-ROW, COMMANDS, rank, key, Command}
+use Rattle.batch_commands.specs.Format.{END, TRACE-ROWS, ROW, OP-STACK, RAM, JUMP-STACK, SAMPLED, DIGEST, INPUT, OUTPUT, MONTGOMERY-ROW, HEIGHT, COMMANDS, rank, key, Command}
 use Rattle.field_montgomery.specs.declared.Form.{Form}
 use Rattle.batch_commands.specs.Form.{rowCommand, OfForm}
 use Rattle.batch_commands.proofs.Tables.{of-test, rank-injective, of-any, row-known, row-rank, row-of}
@@ -60,7 +60,7 @@ seam : (r s m : ℕ) (ks : List Command) → OrderedFrom s m ks → from r ks �
 seam r s m [] h = refl
 seam r s m (k ∷ ks) h = seam-by r k ks (leb r (rank (k .code))) (leb (suc r) (rank (k .code))) refl refl (h .1) (seam r (rank (k .code)) (key (k .code) (k .operand)) ks (h .1))
 
--- the kinds behind 01 in their order
+-- the kinds behind 01 and 0B in their order
 abbrev pub behind : Form → List ℕ
 behind form = DIGEST ∷ INPUT ∷ OUTPUT ∷ SAMPLED ∷ rowCommand form ∷ OP-STACK ∷ RAM ∷ JUMP-STACK ∷ []
 
@@ -97,16 +97,16 @@ module _ (form : Form) where
         let this : at r ks ≡ only code ks = those-alike (λ k. eqb (rank (k .code)) r) (λ k. eqb (k .code) code) ks (every-map Known (λ k. eqb (rank (k .code)) r ≡ eqb (k .code) code) (λ k p. rw (sym (l .2)) (test-by (k .code) code (eqb (k .code) code) refl (p .0) (l .0) (p .2) (l .1))) ks known) in
         seam r s m ks h ∙ rw (this, kinds-from (suc r) codes (l .3))
 
-    pub in-kinds : ks ≡ kinds (TRACE-ROWS ∷ behind form) ks
+    pub in-kinds : ks ≡ kinds (TRACE-ROWS ∷ HEIGHT ∷ behind form) ks
     in-kinds =
         sym (those-all (λ k. leb 0 (rank (k .code))) ks (every-map Known (λ k. leb 0 (rank (k .code)) ≡ true) (λ k p. le-leb 0 (rank (k .code)) (omega arith)) ks known))
-        ∙ kinds-from 0 (TRACE-ROWS ∷ behind form) in-line
+        ∙ kinds-from 0 (TRACE-ROWS ∷ HEIGHT ∷ behind form) in-line
       where
         any : (code : ℕ) → (eqb code ROW || eqb code MONTGOMERY-ROW) ≡ false → OfForm form code
         any = of-any form
 
-        from-rows : InLine 5 (rowCommand form ∷ OP-STACK ∷ RAM ∷ JUMP-STACK ∷ [])
+        from-rows : InLine 6 (rowCommand form ∷ OP-STACK ∷ RAM ∷ JUMP-STACK ∷ [])
         from-rows = (row-known form, row-of form, row-rank form, (lit< tt, any OP-STACK refl, refl, (lit< tt, any RAM refl, refl, (lit< tt, any JUMP-STACK refl, refl, lit≤ tt))))
 
-        in-line : InLine 0 (TRACE-ROWS ∷ behind form)
-        in-line = (lit< tt, any TRACE-ROWS refl, refl, (lit< tt, any DIGEST refl, refl, (lit< tt, any INPUT refl, refl, (lit< tt, any OUTPUT refl, refl, (lit< tt, any SAMPLED refl, refl, from-rows)))))
+        in-line : InLine 0 (TRACE-ROWS ∷ HEIGHT ∷ behind form)
+        in-line = (lit< tt, any TRACE-ROWS refl, refl, (lit< tt, any HEIGHT refl, refl, (lit< tt, any DIGEST refl, refl, (lit< tt, any INPUT refl, refl, (lit< tt, any OUTPUT refl, refl, (lit< tt, any SAMPLED refl, refl, from-rows))))))

@@ -1,24 +1,23 @@
 -- A batch that is read is the one that the writer lays out for what it brings.
 use mathlib.Core.Path.{_≡_, refl, sym, ap, ap₂, _∙_}
-use mathlib.Core.Bool.{Bool, true, false, cond}
 use mathlib.Core.List.{List, [], _∷_, _++_, append-assoc, map}
 use Prim.Native.Nat.{ℕ, suc, _+_, _*_, _/_, _≤_}
 use native.Mathlib.Omega.{arith}
-use lib.Dec.{eqb, lit<}
+use lib.Dec.{lit<}
 use lib.ListN.{length, length-append, List·getD-append}
 use lib.Seq.{getD-append-add}
 use borrow.Author.Tests.{eq-eqb}
 use Rattle.table_rows.specs.Rows.{rows}
 use Rattle.batch_words.specs.Words.{number, littleEndian}
 use Rattle.batch_words.proofs.Writing.{littleEndian-number}
-use Rattle.batch_commands.specs.Format.{END, TRACE-ROWS, ROW, OP-STACK, RAM, JUMP-STACK, SAMPLED, DIGEST, INPUT, OUTPUT, width, Command, laidOut}
+use Rattle.batch_commands.specs.Format.{END, TRACE-ROWS, ROW, OP-STACK, RAM, JUMP-STACK, SAMPLED, DIGEST, INPUT, OUTPUT, HEIGHT, width, Command, laidOut}
 use Rattle.batch_commands.proofs.Laid.{laid-append}
 use Rattle.field_montgomery.specs.declared.Form.{Form}
 use Rattle.field_montgomery.specs.declared.Form.the-variants.{Plain, Montgomery}
 use Rattle.field_montgomery.specs.Form.{inForm}
 use Rattle.batch_commands.specs.Form.{rowCommand, otherForm, OfForm}
 use Rattle.batch_commands.proofs.Tables.{row-known, row-limit}
-use Rattle.batch_reader.specs.Commands.{count, contents, formOf, sliceFrom, announced}
+use Rattle.batch_reader.specs.Commands.{count, contents, formOf, sliceFrom, announced, heightOf}
 use Rattle.batch_reader.specs.Reading.{read, reading}
 use Rattle.batch_reader.proofs.Commands.{length-contents}
 use Rattle.batch_reader.proofs.Forms.{none-there, rows-counted}
@@ -29,7 +28,8 @@ use Rattle.batch_writer.specs.Contents.{Contents, contentsOf}
 use Rattle.batch_writer.specs.Layout.{commandsFor, batchOf}
 use Rattle.terms_batches.specs.Opening.{Bytes}
 use Rattle.terms_batches.proofs.ByKind.{Known, only, kinds, behind, in-kinds}
-use Rattle.terms_batches.proofs.OneKind.{Sized, kind-is}
+use Rattle.terms_batches.proofs.OneKind.{Sized, none-of, kind-is}
+use Rattle.terms_batches.proofs.Heights.{only-height}
 use Rattle.terms_batches.proofs.Sections.{Section, section, joined, sectionsOf, announcing, commands-of}
 use Rattle.terms_batches.proofs.Sound.{Proper, contents-below, Starts, Sound, sound}
 use Rattle.field_montgomery.proofs.Many.{in-form-plain}
@@ -38,7 +38,7 @@ use Rattle.terms_batches.proofs.Differences.{sorted-already}
 -- what commands bring
 abbrev pub contentsIn : List Command → Contents
 contentsIn ks =
-    contentsOf (sliceFrom ROW ks) (contents OP-STACK ks) (contents RAM ks) (contents JUMP-STACK ks) (contents SAMPLED ks) (contents DIGEST ks) (contents INPUT ks) (contents OUTPUT ks)
+    contentsOf (sliceFrom ROW ks) (contents OP-STACK ks) (contents RAM ks) (contents JUMP-STACK ks) (contents SAMPLED ks) (contents DIGEST ks) (contents INPUT ks) (contents OUTPUT ks) (heightOf ks)
 
 bytes-parts : (bs cs : List ℕ) → Bytes (bs ++ cs) → Bytes bs × Bytes cs
 bytes-parts bs cs h = (
@@ -52,15 +52,6 @@ each-sized [] rest b h = tt
 each-sized (k ∷ ks) rest b h =
     let p = bytes-parts (k .operand) (laidOut ks ++ rest) (λ i l. rw append-assoc at (b (suc i) (omega (arith, ap length (append-assoc (k .operand) (laidOut ks) rest))))) in
     ((h .0 .whole, p .0), each-sized ks rest (p .1) (h .1))
-
-none-of : (code : ℕ) (ks : List Command) → count code ks ≡ 0 → only code ks ≡ []
-unfolding count
-none-of code [] e = refl
-none-of code (k ∷ ks) e = none-by (eqb (k .code) code) e (none-of code ks)
-  where
-    none-by : (same : Bool) → cond same 1 0 + count code ks ≡ 0 → (count code ks ≡ 0 → only code ks ≡ []) → cond same (k ∷ only code ks) (only code ks) ≡ []
-    none-by true e h = absurd (omega arith)
-    none-by false e h = h (omega arith)
 
 -- 01 is known by the rows that it announces
 first-is : (ks : List Command) → Starts ks → count TRACE-ROWS ks ≤ 1 → Every Sized ks → only TRACE-ROWS ks ≡ record { code = TRACE-ROWS; operand = littleEndian 4 (announced ks) } ∷ []
@@ -83,19 +74,18 @@ even-row : (form : Form) → Even (rowCommand form)
 even-row Plain = refl
 even-row Montgomery = refl
 
-module _ (ks : List Command) (s : Sound (formOf ks) ks) (sized : Every Sized ks) where
+module _ (ks : List Command) (s : Sound (formOf ks) ks) where
   abbrev form : Form
   form = formOf ks
-
-  kinds-joined : (codes : List ℕ) → Every Even codes → kinds codes ks ≡ joined (map (sectionIn ks) codes)
-  kinds-joined [] h = refl
-  kinds-joined (code ∷ codes) h = rw (kind-is code (h .0) ks sized, kinds-joined codes (h .1))
 
   in-order : Ordered ks
   in-order = ordered-parts 0 0 ks (end ∷ []) (s .in-order) .0
 
   all-rows : rows (sliceFrom ROW ks) ≡ count (rowCommand form) ks
   all-rows = omega (arith, length-rows ks, rows-counted ks)
+
+  pub announced-rows : announced ks ≡ rows (sliceFrom ROW ks)
+  announced-rows = omega (arith, all-rows, s .all-rows, s .within (rowCommand form) (row-known form), row-limit (announced ks) form)
 
   -- the rows' words are sent as they came
   as-sent : inForm form (sliceFrom ROW ks) ≡ contents (rowCommand form) ks
@@ -124,14 +114,18 @@ module _ (ks : List Command) (s : Sound (formOf ks) ks) (sized : Every Sized ks)
         sorted-already JUMP-STACK refl refl ks in-order,
       )
 
-  commands-are : ks ++ (end ∷ []) ≡ commandsFor form (contentsIn ks)
-  commands-are =
-      let in-form = every-both Proper (λ k. OfForm form (k .code)) ks (s .each) (none-there (rowCommand (otherForm form)) ks (s .one-form)) in
-      let known = every-map _ (Known form) (λ k p. (p .0 .known, p .0 .more, p .1)) ks in-form in
-      let announced-all : announced ks ≡ rows (sliceFrom ROW ks) = omega (arith, all-rows, s .all-rows, s .within (rowCommand form) (row-known form), row-limit (announced ks) form) in
-      let first : only TRACE-ROWS ks ≡ announcing (rows (sliceFrom ROW ks)) ∷ [] = first-is ks (s .starts) (s .within TRACE-ROWS (lit< tt)) sized ∙ ap (λ n. announcing n ∷ []) announced-all in
-      let rest : kinds (behind form) ks ≡ joined (sectionsOf form (contentsIn ks)) = kinds-joined (behind form) (refl, (refl, (refl, (refl, (even-row form, (refl, (refl, (refl, tt)))))))) ∙ ap joined sections-are in
-      ap (λ l. l ++ (end ∷ [])) (in-kinds form ks known 0 0 in-order) ∙ ap₂ (λ us vs. (us ++ vs) ++ (end ∷ [])) first rest ∙ sym (commands-of form (contentsIn ks))
+  module _ (sized : Every Sized ks) where
+    kinds-joined : (codes : List ℕ) → Every Even codes → kinds codes ks ≡ joined (map (sectionIn ks) codes)
+    kinds-joined [] h = refl
+    kinds-joined (code ∷ codes) h = rw (kind-is code (h .0) ks sized, kinds-joined codes (h .1))
+
+    commands-are : ks ++ (end ∷ []) ≡ commandsFor form (contentsIn ks)
+    commands-are =
+        let in-form = every-both Proper (λ k. OfForm form (k .code)) ks (s .each) (none-there (rowCommand (otherForm form)) ks (s .one-form)) in
+        let known = every-map _ (Known form) (λ k p. (p .0 .known, p .0 .more, p .1)) ks in-form in
+        let first : only TRACE-ROWS ks ≡ announcing (rows (sliceFrom ROW ks)) ∷ [] = first-is ks (s .starts) (s .within TRACE-ROWS (lit< tt)) sized ∙ ap (λ n. announcing n ∷ []) announced-rows in
+        let rest : kinds (behind form) ks ≡ joined (sectionsOf form (contentsIn ks)) = kinds-joined (behind form) (refl, (refl, (refl, (refl, (even-row form, (refl, (refl, (refl, tt)))))))) ∙ ap joined sections-are in
+        ap (λ l. l ++ (end ∷ [])) (in-kinds form ks known 0 0 in-order) ∙ ap₂ (λ us vs. (us ++ (only HEIGHT ks ++ vs)) ++ (end ∷ [])) first rest ∙ ap (λ hs. announcing (rows (sliceFrom ROW ks)) ∷ (hs ++ joined (sectionsOf form (contentsIn ks))) ++ (end ∷ [])) (only-height ks (s .height) sized) ∙ sym (commands-of form (contentsIn ks))
 
 pub canonical : (batch : List ℕ) (ks : List Command) → reading batch ≡ read ks → Bytes batch → batch ≡ batchOf (formOf ks) (contentsIn ks)
 unfolding batchOf

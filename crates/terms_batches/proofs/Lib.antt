@@ -2,6 +2,7 @@
 pub mod ByKind
 pub mod OneKind
 pub mod Sound
+pub mod Heights
 pub mod Sorted
 pub mod Differences
 pub mod Sections

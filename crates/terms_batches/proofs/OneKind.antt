@@ -48,3 +48,12 @@ module _ (code : ℕ) (even : 8 * (width code / 8) ≡ width code) where
   unfolding commandsWith count contents
   kind-is [] h = refl
   kind-is (k ∷ ks) h = kind-by k ks (eqb (k .code) code) refl (h .0) (kind-is ks (h .1))
+
+pub none-of : (code : ℕ) (ks : List Command) → count code ks ≡ 0 → only code ks ≡ []
+unfolding count
+none-of code [] e = refl
+none-of code (k ∷ ks) e = none-by (eqb (k .code) code) e (none-of code ks)
+  where
+    none-by : (same : Bool) → cond same 1 0 + count code ks ≡ 0 → (count code ks ≡ 0 → only code ks ≡ []) → cond same (k ∷ only code ks) (only code ks) ≡ []
+    none-by true e h = absurd (omega arith)
+    none-by false e h = h (omega arith)

@@ -16,7 +16,7 @@ use Rattle.batch_commands.specs.Format.{MAX-DIFFERENCES, MAX-WORDS, ROW, OP-STA
 use Rattle.batch_reader.specs.declared.Counts.{Counts}
 use Rattle.batch_reader.specs.declared.OpenAnswer.{OpenAnswer}
 use Rattle.batch_reader.specs.declared.OpenAnswer.the-variants.{Opened, Refused}
-use Rattle.batch_reader.specs.Commands.{counts, sliceFrom}
+use Rattle.batch_reader.specs.Commands.{counts, heightOf, sliceFrom}
 use Rattle.batch_reader.specs.Reading.{Reading, read, refused, reading}
 use Rattle.batch_reader.specs.Answers.{countsIn, answerOf, brought}
 use Rattle.batch_reader.proofs.Commands.{length-contents}
@@ -37,11 +37,11 @@ opens false r rest came e = (refl, e)
 pub record Opens (batch : List ℕ) (lent : Contents) (came : Counts) : Type 0 where
   pub ks : List Command
   pub is-read : reading batch ≡ read ks
-  pub came-is : came ≡ countsIn (counts ks)
+  pub came-is : came ≡ countsIn (counts ks) (heightOf ks)
   pub right : RightSlices lent
   pub short : length batch ≤ MAX-BYTES
 
-answers : (r : Reading) (came : Counts) → answerOf r ≡ Opened came → (ks : List Command) × (r ≡ read ks) × (came ≡ countsIn (counts ks))
+answers : (r : Reading) (came : Counts) → answerOf r ≡ Opened came → (ks : List Command) × (r ≡ read ks) × (came ≡ countsIn (counts ks) (heightOf ks))
 answers (read ks) came e = (ks, refl, cc)
 answers (refused r) came e = ([], cc, cc)
 
@@ -89,4 +89,5 @@ module _ (batch : List ℕ) (lent : Contents) (came : Counts) (e : opened batch 
       let digest = whole DIGEST (lent .digest) (omega (arith, lengths .1, length-contents DIGEST ks, s .digest, s .within DIGEST (lit< tt))) in
       let input = up-to INPUT (came .input) (lent .input) (omega (arith, length-contents INPUT ks, ap (λ c. c .input) (o .came-is))) in
       let output = up-to OUTPUT (came .output) (lent .output) (omega (arith, length-contents OUTPUT ks, ap (λ c. c .output) (o .came-is))) in
-      λ i. record { trace = trace i; op-stack = op-stack i; ram = ram i; jump-stack = jump-stack i; sampled = sampled i; digest = digest i; input = input i; output = output i }
+      let log2-height = ap (λ c. c .«log2_height») (o .came-is) in
+      λ i. record { trace = trace i; op-stack = op-stack i; ram = ram i; jump-stack = jump-stack i; sampled = sampled i; digest = digest i; input = input i; output = output i; log2-height = log2-height i }

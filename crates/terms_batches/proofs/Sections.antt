@@ -1,4 +1,4 @@
--- The writer's commands: 01, a section for each kind behind it, and 00.
+-- The writer's commands: 01, 0B for a k, a section for each kind behind them, and 00.
 use mathlib.Core.Path.{_≡_}
 use mathlib.Core.List.{List, [], _∷_, _++_, append-assoc}
 use Prim.Native.Nat.{ℕ}
@@ -12,7 +12,7 @@ use Rattle.batch_commands.specs.Form.{rowCommand}
 use Rattle.batch_reader.proofs.LaidOut.{end}
 use Rattle.batch_sorted.specs.Sorted.{sorted}
 use Rattle.batch_writer.specs.Contents.{Contents}
-use Rattle.batch_writer.specs.Layout.{commandsWith, commandsFor}
+use Rattle.batch_writer.specs.Layout.{commandsOfHeight, commandsWith, commandsFor}
 
 -- n commands of a kind, and the words that they bring
 pub record Section : Type 0 where
@@ -42,6 +42,6 @@ sectionsOf form contents =
 abbrev pub announcing : ℕ → Command
 announcing n = record { code = TRACE-ROWS; operand = littleEndian 4 n }
 
-pub commands-of : (form : Form) (contents : Contents) → commandsFor form contents ≡ announcing (rows (contents .trace)) ∷ joined (sectionsOf form contents) ++ (end ∷ [])
+pub commands-of : (form : Form) (contents : Contents) → commandsFor form contents ≡ announcing (rows (contents .trace)) ∷ (commandsOfHeight (contents .log2-height) ++ joined (sectionsOf form contents)) ++ (end ∷ [])
 unfolding commandsFor
 commands-of form contents = simp append-assoc

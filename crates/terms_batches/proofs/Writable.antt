@@ -1,6 +1,6 @@
 -- Contents that the writer takes.
 use mathlib.Core.Path.{_≡_, sym}
-use mathlib.Core.Bool.{Bool, true, not, _&&_}
+use mathlib.Core.Bool.{Bool, true, false, not, _&&_}
 use mathlib.Core.List.{List, [], _∷_}
 use Prim.Native.Nat.{ℕ, _≤_}
 use lib.Dec.{leb}
@@ -8,13 +8,13 @@ use borrow.Author.Tests.{leb-true, not-false}
 use Rattle.field_base.specs.Words.{allBelow}
 use Rattle.field_base.proofs.Below.{and-true}
 use Rattle.refusal.specs.declared.Answer.the-variants.{Done}
-use Rattle.refusal.specs.declared.Refusal.the-variants.{SliceLength, RowCount, WordNotBelowP}
+use Rattle.refusal.specs.declared.Refusal.the-variants.{SliceLength, RowCount, HeightOutOfRange, WordNotBelowP}
 use Rattle.refusal.proofs.Answers.{past}
 use Rattle.table_rows.specs.Rows.{rows}
 use Rattle.batch_commands.specs.Format.{MAX-ROWS}
 use Rattle.field_montgomery.specs.declared.Form.{Form}
 use Rattle.batch_writer.specs.Contents.{Contents}
-use Rattle.batch_writer.specs.Write.{rightLengths, allWordsBelow, writeAnswer}
+use Rattle.batch_writer.specs.Write.{rightLengths, allWordsBelow, refusedHeight, writeAnswer}
 use Rattle.batch_writer.proofs.Lengths.{Right, right, all-right}
 use Rattle.batch_writer.proofs.Answers.{all-done}
 use Rattle.terms_batches.proofs.Conjunctions.{all-true, true-all}
@@ -23,6 +23,7 @@ pub record Writable (contents : Contents) (n : ℕ) : Type 0 where
   pub lengths : Right contents n
   pub some-rows : 1 ≤ rows (contents .trace)
   pub few-rows : rows (contents .trace) ≤ MAX-ROWS
+  pub height : refusedHeight (rows (contents .trace)) (contents .log2-height) ≡ false
   pub trace : allBelow (contents .trace) ≡ true
   pub op-stack : allBelow (contents .op-stack) ≡ true
   pub ram : allBelow (contents .ram) ≡ true
@@ -50,13 +51,15 @@ module _ (form : Form) (contents : Contents) (n : ℕ) where
       let count = rows (contents .trace) in
       let a = past (not (rightLengths form contents n)) SliceLength _ e in
       let b = past (not (leb 1 count && leb count MAX-ROWS)) RowCount _ (a .1) in
-      let c = past (not (allWordsBelow contents)) WordNotBelowP _ (b .1) in
+      let d = past (refusedHeight count (contents .log2-height)) HeightOutOfRange _ (b .1) in
+      let c = past (not (allWordsBelow contents)) WordNotBelowP _ (d .1) in
       let r = and-true (leb 1 count) (leb count MAX-ROWS) (not-false (leb 1 count && leb count MAX-ROWS) (b .0)) in
       let w = all-true (allBelow (contents .trace)) lists (not-false (allWordsBelow contents) (c .0)) in
       record {
         lengths = right contents form n (not-false (rightLengths form contents n) (a .0));
         some-rows = leb-true 1 count (r .0);
         few-rows = leb-true count MAX-ROWS (r .1);
+        height = d .0;
         trace = w .0;
         op-stack = w .1 .0;
         ram = w .1 .1 .0;
@@ -70,4 +73,4 @@ module _ (form : Form) (contents : Contents) (n : ℕ) where
   pub done : Writable contents n → writeAnswer form contents n ≡ Done
   done w =
       let below = true-all (allBelow (contents .trace)) lists (w .trace) (w .op-stack, (w .ram, (w .jump-stack, (w .sampled, (w .digest, (w .input, (w .output, tt))))))) in
-      sym (all-done form contents n (sym (all-right contents form n (w .lengths))) (w .some-rows) (w .few-rows) below)
+      sym (all-done form contents n (sym (all-right contents form n (w .lengths))) (w .some-rows) (w .few-rows) (w .height) below)

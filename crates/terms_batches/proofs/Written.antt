@@ -1,8 +1,8 @@
 -- What the writer writes is read: its commands, and then what opening it leaves.
 use mathlib.Core.Path.{_≡_, refl, sym, ap, _∙_}
-use mathlib.Core.Bool.{true, false, cond, _||_}
+use mathlib.Core.Bool.{Bool, true, false, cond, _||_}
 use mathlib.Core.Logic.{_⊎_, inl, inr, ⊎-elim}
-use mathlib.Core.List.{List, [], _∷_, _++_, append-nil}
+use mathlib.Core.List.{List, [], _∷_, _++_, append-assoc, append-nil}
 use Prim.Native.Nat.{ℕ, _+_, _*_, _/_, _%_, _≤_, _<_}
 use native.Mathlib.Nat.{zero-add, add-zero, mul-one}
 use native.Mathlib.Omega.{arith}
@@ -16,7 +16,7 @@ use Rattle.air.specs.ChallengeId.{SAMPLED-WORDS, DIGEST-WORDS}
 use Rattle.table_rows.specs.Rows.{rows}
 use Rattle.batch_words.specs.Words.{words, littleEndian}
 use Rattle.batch_words.proofs.Writing.{length-littleEndian, number-littleEndian}
-use Rattle.batch_commands.specs.Format.{END, TRACE-ROWS, ROW, OP-STACK, RAM, JUMP-STACK, SAMPLED, DIGEST, INPUT, OUTPUT, MONTGOMERY-ROW, COMMANDS, width, keyWidth, key, Command, laidOut}
+use Rattle.batch_commands.specs.Format.{END, TRACE-ROWS, ROW, OP-STACK, RAM, JUMP-STACK, SAMPLED, DIGEST, INPUT, OUTPUT, MONTGOMERY-ROW, HEIGHT, COMMANDS, MAX-LOG-2-HEIGHT, width, keyWidth, key, rank, Command, laidOut}
 use Rattle.batch_commands.specs.Fault.{limit}
 use Rattle.field_montgomery.specs.declared.Form.{Form}
 use Rattle.field_montgomery.specs.declared.Form.the-variants.{Plain, Montgomery}
@@ -24,29 +24,32 @@ use Rattle.batch_commands.specs.Form.{rowCommand, otherForm}
 use Rattle.batch_commands.proofs.Tables.{of-each, of-any, row-known, row-limit, row-rank}
 use Rattle.batch_commands.proofs.Laid.{laid-append}
 use Rattle.batch_reader.specs.declared.OpenAnswer.the-variants.{Opened}
-use Rattle.batch_reader.specs.Commands.{count, counts, contents, formOf, sliceFrom, announced}
+use Rattle.batch_reader.specs.Commands.{count, counts, contents, formOf, sliceFrom, announced, heightOf}
 use Rattle.batch_reader.specs.Reading.{read, reading}
 use Rattle.batch_reader.specs.Answers.{countsIn}
-use Rattle.batch_reader.proofs.Commands.{length-contents}
+use Rattle.batch_reader.proofs.Commands.{count-append, contents-append, length-contents}
 use Rattle.batch_reader.proofs.Forms.{rows-counted}
 use Rattle.batch_reader.proofs.Rows.{length-rows}
-use Rattle.batch_reader.proofs.Ordered.{Every}
+use Rattle.batch_reader.proofs.Ordered.{OrderedFrom, Every, every-append}
 use Rattle.batch_reader.proofs.LaidOut.{end, is-read}
 use Rattle.batch.specs.Open.{MAX-BYTES, openAnswer}
 use Rattle.batch_sorted.specs.Sorted.{sorted}
 use Rattle.batch_sorted.proofs.Lengths.{length-sorted}
+use Rattle.batch_lengths.proofs.Tests.{height-few}
 use Rattle.batch_writer.specs.Contents.{Contents}
-use Rattle.batch_writer.specs.Layout.{batchOf}
+use Rattle.batch_writer.specs.Layout.{commandsOfHeight, batchOf}
 use Rattle.batch_writer.proofs.Answers.{the-batch}
 use Rattle.batch_writer.proofs.Parts.{length-batchOf}
+use Rattle.batch_writer.proofs.Heights.{small}
 use Rattle.terms_batches.specs.Opening.{opened, slicesAfter, upTo, countsOf}
 use Rattle.terms_batches.specs.Written.{RightSlices, withSortedLists, WrittenOpens, WrittenForm, WrittenAgain}
-use Rattle.terms_batches.proofs.Canonical.{contentsIn, canonical}
+use Rattle.terms_batches.proofs.Canonical.{contentsIn, announced-rows, canonical}
+use Rattle.terms_batches.proofs.Heights.{not-refused, count-height, counted-height, contents-height, proper-height, ordered-height, height-there, height-set-there}
 use Rattle.terms_batches.proofs.Joined.{Fits, unkeyed, keyed, each-joined, counted, count-joined, held, contents-joined, ordered-joined}
 use Rattle.terms_batches.proofs.Opened.{opening, left-in-slices}
 use Rattle.terms_batches.proofs.Sections.{section, joined, sectionsOf, announcing, commands-of}
 use Rattle.terms_batches.proofs.Sorted.{below-sorted, sorted-ascends}
-use Rattle.terms_batches.proofs.Sound.{contents-below, Sound, sound, form-of, rows-of, faultless, complete}
+use Rattle.terms_batches.proofs.Sound.{Proper, contents-below, Sound, sound, form-of, rows-of, faultless, complete}
 use Rattle.field_montgomery.proofs.Many.{plain-in-form, below-in-form, below-plain, length-in-form}
 use Rattle.terms_batches.proofs.Filled.{Filled}
 use Rattle.terms_batches.proofs.Writable.{Writable, writable, done}
@@ -92,7 +95,7 @@ module _ (c : Contents) where
   held-rows Montgomery = refl
 
 abbrev commandsIn : Form → Contents → List Command
-commandsIn form c = announcing (rows (c .trace)) ∷ joined (sectionsOf form c)
+commandsIn form c = announcing (rows (c .trace)) ∷ (commandsOfHeight (c .log2-height) ++ joined (sectionsOf form c))
 
 either : (form row : Form) → (row ≡ form) ⊎ (row ≡ otherForm form)
 either Plain Plain = inl refl
@@ -103,6 +106,10 @@ either Montgomery Montgomery = inl refl
 no-first : (form : Form) → eqb TRACE-ROWS (rowCommand form) ≡ false
 no-first Plain = refl
 no-first Montgomery = refl
+
+no-height : (form : Form) → eqb HEIGHT (rowCommand form) ≡ false
+no-height Plain = refl
+no-height Montgomery = refl
 
 module _ (form : Form) (c : Contents) (n : ℕ) (w : Writable c n) where
   fits : Every Fits (sectionsOf form c)
@@ -120,23 +127,37 @@ module _ (form : Form) (c : Contents) (n : ℕ) (w : Writable c n) where
   announces : announced (commandsIn form c) ≡ rows (c .trace)
   announces = number-littleEndian 4 (rows (c .trace)) (omega (arith, w .few-rows))
 
-  -- how many of a kind
-  counts-are : (code : ℕ) → count code (commandsIn form c) ≡ cond (eqb TRACE-ROWS code) 1 0 + counted code (sectionsOf form c)
-  unfolding count
-  counts-are code = ap (λ m. cond (eqb TRACE-ROWS code) 1 0 + m) (count-joined code (sectionsOf form c))
+  abbrev k : ℕ
+  k = c .log2-height
 
-  -- of one that is no row
-  counts-alike : (code : ℕ) → (eqb code ROW || eqb code MONTGOMERY-ROW) ≡ false → count code (commandsIn form c) ≡ cond (eqb TRACE-ROWS code) 1 0 + counted code (sectionsOf Plain c)
-  counts-alike code no-row = counts-are code ∙ ap (_+_ (cond (eqb TRACE-ROWS code) 1 0)) (counted-alike c code no-row form)
+  -- how many of a kind
+  counts-all : (code : ℕ) → count code (commandsIn form c) ≡ cond (eqb TRACE-ROWS code) 1 0 + (count code (commandsOfHeight k) + counted code (sectionsOf form c))
+  unfolding count
+  counts-all code = ap (_+_ (cond (eqb TRACE-ROWS code) 1 0)) (count-append code (commandsOfHeight k) (joined (sectionsOf form c)) ∙ ap (_+_ (count code (commandsOfHeight k))) (count-joined code (sectionsOf form c)))
+
+  -- of one that is not 0B
+  counts-are : (code : ℕ) → eqb HEIGHT code ≡ false → count code (commandsIn form c) ≡ cond (eqb TRACE-ROWS code) 1 0 + counted code (sectionsOf form c)
+  counts-are code other = counts-all code ∙ ap (λ m. cond (eqb TRACE-ROWS code) 1 0 + (m + counted code (sectionsOf form c))) (count-height k code other) ∙ ap (_+_ (cond (eqb TRACE-ROWS code) 1 0)) (zero-add (counted code (sectionsOf form c)))
+
+  -- and no row
+  counts-alike : (code : ℕ) → eqb HEIGHT code ≡ false → (eqb code ROW || eqb code MONTGOMERY-ROW) ≡ false → count code (commandsIn form c) ≡ cond (eqb TRACE-ROWS code) 1 0 + counted code (sectionsOf Plain c)
+  counts-alike code other no-row = counts-are code other ∙ ap (_+_ (cond (eqb TRACE-ROWS code) 1 0)) (counted-alike c code no-row form)
+
+  -- of 0B
+  none-joined : counted HEIGHT (sectionsOf form c) ≡ 0
+  none-joined = counted-alike c HEIGHT refl form
+
+  count-heights : count HEIGHT (commandsIn form c) ≡ cond (eqb k 0) 0 1
+  count-heights = counts-all HEIGHT ∙ rw (none-joined, counted-height k) (zero-add (cond (eqb k 0) 0 1 + 0) ∙ add-zero (cond (eqb k 0) 0 1))
 
   count-rows : count (rowCommand form) (commandsIn form c) ≡ rows (c .trace)
-  count-rows = counts-are (rowCommand form) ∙ rw (no-first form) (zero-add (counted (rowCommand form) (sectionsOf form c)) ∙ counted-rows c form)
+  count-rows = counts-are (rowCommand form) (no-height form) ∙ rw (no-first form) (zero-add (counted (rowCommand form) (sectionsOf form c)) ∙ counted-rows c form)
 
   count-others : count (rowCommand (otherForm form)) (commandsIn form c) ≡ 0
-  count-others = counts-are (rowCommand (otherForm form)) ∙ rw (no-first (otherForm form)) (zero-add (counted (rowCommand (otherForm form)) (sectionsOf form c)) ∙ counted-others c form)
+  count-others = counts-are (rowCommand (otherForm form)) (no-height (otherForm form)) ∙ rw (no-first (otherForm form)) (zero-add (counted (rowCommand (otherForm form)) (sectionsOf form c)) ∙ counted-others c form)
 
-  under : (code : ℕ) → (eqb code ROW || eqb code MONTGOMERY-ROW) ≡ false → cond (eqb TRACE-ROWS code) 1 0 + counted code (sectionsOf Plain c) ≤ limit (rows (c .trace)) code → count code (commandsIn form c) ≤ limit (announced (commandsIn form c)) code
-  under code no-row h = rw (counts-alike code no-row, announces) h
+  under : (code : ℕ) → eqb HEIGHT code ≡ false → (eqb code ROW || eqb code MONTGOMERY-ROW) ≡ false → cond (eqb TRACE-ROWS code) 1 0 + counted code (sectionsOf Plain c) ≤ limit (rows (c .trace)) code → count code (commandsIn form c) ≤ limit (announced (commandsIn form c)) code
+  under code other no-row h = rw (counts-alike code other no-row, announces) h
 
   under-rows : (row : Form) → count (rowCommand row) (commandsIn form c) ≤ rows (c .trace) → count (rowCommand row) (commandsIn form c) ≤ limit (announced (commandsIn form c)) (rowCommand row)
   under-rows row h = rw (announces, row-limit (rows (c .trace)) row) h
@@ -144,15 +165,33 @@ module _ (form : Form) (c : Contents) (n : ℕ) (w : Writable c n) where
   at-most : (row : Form) → count (rowCommand row) (commandsIn form c) ≤ rows (c .trace)
   at-most row = ⊎-elim (λ e. rw e (omega (arith, count-rows))) (λ e. rw e (omega (arith, count-others))) (either form row)
 
+  one-by : (none : Bool) → cond none 0 1 ≤ 1
+  one-by true = lit≤ tt
+  one-by false = lit≤ tt
+
+  one-height : count HEIGHT (commandsIn form c) ≤ limit (announced (commandsIn form c)) HEIGHT
+  one-height = rw count-heights (one-by (eqb k 0))
+
+  -- k is as it was told
+  small-k : k ≤ MAX-LOG-2-HEIGHT
+  small-k = small (rows (c .trace)) k (w .height)
+
+  height-so : heightOf (commandsIn form c) ≡ k
+  unfolding heightOf
+  height-so = height-there k (omega (arith, small-k)) (joined (sectionsOf form c)) (count-joined HEIGHT (sectionsOf form c) ∙ none-joined)
+
   under-limits : (code : ℕ) → code < COMMANDS → count code (commandsIn form c) ≤ limit (announced (commandsIn form c)) code
   under-limits =
-      let op-stack = under OP-STACK refl (omega (arith, w .lengths .op-stack)) in
-      let ram = under RAM refl (omega (arith, w .lengths .ram)) in
-      let jump-stack = under JUMP-STACK refl (omega (arith, w .lengths .jump-stack)) in
-      let input = under INPUT refl (omega (arith, w .lengths .input)) in
-      let output = under OUTPUT refl (omega (arith, w .lengths .output)) in
+      let op-stack = under OP-STACK refl refl (omega (arith, w .lengths .op-stack)) in
+      let ram = under RAM refl refl (omega (arith, w .lengths .ram)) in
+      let jump-stack = under JUMP-STACK refl refl (omega (arith, w .lengths .jump-stack)) in
+      let input = under INPUT refl refl (omega (arith, w .lengths .input)) in
+      let output = under OUTPUT refl refl (omega (arith, w .lengths .output)) in
       of-each (λ code. count code (commandsIn form c) ≤ limit (announced (commandsIn form c)) code)
-      (under END refl (lit≤ tt), (under TRACE-ROWS refl (lit≤ tt), (under-rows Plain (at-most Plain), (op-stack, (ram, (jump-stack, (under SAMPLED refl (lit≤ tt), (under DIGEST refl (lit≤ tt), (input, (output, (under-rows Montgomery (at-most Montgomery), tt)))))))))))
+      (under END refl refl (lit≤ tt), (under TRACE-ROWS refl refl (lit≤ tt), (under-rows Plain (at-most Plain), (op-stack, (ram, (jump-stack, (under SAMPLED refl refl (lit≤ tt), (under DIGEST refl refl (lit≤ tt), (input, (output, (under-rows Montgomery (at-most Montgomery), (one-height, tt))))))))))))
+
+  behind-01 : ((r a : ℕ) → r < rank DIGEST → OrderedFrom r a (joined (sectionsOf form c) ++ (end ∷ []))) → OrderedFrom 0 (key TRACE-ROWS (littleEndian 4 (rows (c .trace)))) ((commandsOfHeight k ++ joined (sectionsOf form c)) ++ (end ∷ []))
+  behind-01 h = rw append-assoc (ordered-height k (key TRACE-ROWS (littleEndian 4 (rows (c .trace)))) (joined (sectionsOf form c) ++ (end ∷ [])) h)
 
   sound-so : Sound form (commandsIn form c)
   unfolding allBelow words
@@ -161,13 +200,14 @@ module _ (form : Form) (c : Contents) (n : ℕ) (w : Writable c n) where
         starts = refl;
         some-rows = rw announces (w .some-rows);
         few-rows = rw announces (w .few-rows);
-        each = (record { known = lit< tt; more = λ e. omega arith; whole = length-littleEndian 4 (rows (c .trace)); below = refl }, each-joined (sectionsOf form c) fits);
-        in-order = ((omega arith, λ e. omega arith), ordered-joined 0 (key TRACE-ROWS (littleEndian 4 (rows (c .trace)))) (sectionsOf form c) (lit< tt, (lit< tt, (lit< tt, (lit< tt, (rw (row-rank form) (lit< tt), (rw (row-rank form) (lit< tt), (lit< tt, (lit< tt, lit< tt)))))))) fits);
+        each = (record { known = lit< tt; more = λ e. omega arith; whole = length-littleEndian 4 (rows (c .trace)); below = refl }, every-append Proper (commandsOfHeight k) (joined (sectionsOf form c)) (proper-height k) (each-joined (sectionsOf form c) fits));
+        in-order = ((omega arith, λ e. omega arith), behind-01 (λ r a l. ordered-joined r a (sectionsOf form c) (l, (lit< tt, (lit< tt, (lit< tt, (rw (row-rank form) (lit< tt), (rw (row-rank form) (lit< tt), (lit< tt, (lit< tt, lit< tt)))))))) fits));
         within = under-limits;
         all-rows = rw (announces, count-rows) (omega arith);
         one-form = count-others;
-        sampled = rw (counts-alike SAMPLED refl) (lit≤ tt);
-        digest = rw (counts-alike DIGEST refl) (lit≤ tt);
+        sampled = rw (counts-alike SAMPLED refl refl) (lit≤ tt);
+        digest = rw (counts-alike DIGEST refl refl) (lit≤ tt);
+        height = height-set-there k (commandsIn form c) (rows (c .trace)) count-heights height-so announces (w .height);
       }
 
   batch-is : batchOf form c ≡ laidOut (commandsIn form c) ++ (END ∷ [])
@@ -178,10 +218,10 @@ module _ (form : Form) (c : Contents) (n : ℕ) (w : Writable c n) where
   reads = is-read (batchOf form c) (commandsIn form c) (record { is = batch-is; faultless = faultless form (commandsIn form c) sound-so; complete = complete form (commandsIn form c) sound-so })
 
   short : length (batchOf form c) ≤ MAX-BYTES
-  short = omega (arith, length-batchOf form c (w .lengths .whole) (w .lengths .sampled) (w .lengths .digest), w .few-rows, w .lengths .op-stack, w .lengths .ram, w .lengths .jump-stack, w .lengths .input, w .lengths .output)
+  short = omega (arith, height-few k, length-batchOf form c (w .lengths .whole) (w .lengths .sampled) (w .lengths .digest), w .few-rows, w .lengths .op-stack, w .lengths .ram, w .lengths .jump-stack, w .lengths .input, w .lengths .output)
 
-  counts-so : countsIn (counts (commandsIn form c)) ≡ countsOf c
-  counts-so = rw (rows-of form (commandsIn form c) sound-so, count-rows, counts-alike OP-STACK refl, counts-alike RAM refl, counts-alike JUMP-STACK refl, counts-alike INPUT refl, counts-alike OUTPUT refl) (simp (zero-add, add-zero))
+  counts-so : countsIn (counts (commandsIn form c)) (heightOf (commandsIn form c)) ≡ countsOf c
+  counts-so = rw (rows-of form (commandsIn form c) sound-so, count-rows, counts-alike OP-STACK refl refl, counts-alike RAM refl refl, counts-alike JUMP-STACK refl refl, counts-alike INPUT refl refl, counts-alike OUTPUT refl refl, height-so) (simp (zero-add, add-zero))
 
   opens : (lent : Contents) → RightSlices lent → opened (batchOf form c) lent ≡ Opened (countsOf c)
   unfolding openAnswer
@@ -190,7 +230,7 @@ module _ (form : Form) (c : Contents) (n : ℕ) (w : Writable c n) where
   -- what a kind brings
   brings : (code : ℕ) (ws : List ℕ) → eqb TRACE-ROWS code ≡ false → held code (sectionsOf form c) ≡ ws ++ [] → contents code (commandsIn form c) ≡ ws
   unfolding contents
-  brings code ws other e = rw (other, contents-joined code (sectionsOf form c) fits, e) (append-nil ws)
+  brings code ws other e = rw (other, contents-append code (commandsOfHeight k) (joined (sectionsOf form c)), contents-height k code, contents-joined code (sectionsOf form c) fits, e) (append-nil ws)
 
   list-brings : (code : ℕ) (ws : List ℕ) → eqb TRACE-ROWS code ≡ false → (eqb code ROW || eqb code MONTGOMERY-ROW) ≡ false → held code (sectionsOf Plain c) ≡ ws ++ [] → contents code (commandsIn form c) ≡ ws
   list-brings code ws first no-row e = brings code ws first (held-alike c code no-row form ∙ e)
@@ -209,6 +249,7 @@ module _ (form : Form) (c : Contents) (n : ℕ) (w : Writable c n) where
         digest = list-brings DIGEST (c .digest) refl refl refl i;
         input = list-brings INPUT (c .input) refl refl refl i;
         output = list-brings OUTPUT (c .output) refl refl refl i;
+        log2-height = height-so i;
       }
 
   leaves : (lent : Contents) → RightSlices lent → upTo (countsOf c) (slicesAfter (batchOf form c) lent) ≡ withSortedLists c
@@ -254,6 +295,7 @@ takes ks s n size =
       };
       some-rows = omega (arith, length-rows ks, rows-counted ks);
       few-rows = omega (arith, length-rows ks, rows-counted ks, s .within (rowCommand form) (row-known form), row-limit (announced ks) form);
+      height = rw (sym (announced-rows ks s)) (not-refused ks (s .height));
       trace = below-plain form (contents (rowCommand form) ks) (contents-below (rowCommand form) ks (s .each));
       op-stack = contents-below OP-STACK ks (s .each);
       ram = contents-below RAM ks (s .each);

@@ -1,4 +1,4 @@
--- "Equal contents then have equal bytes", and from Three on "One batch per content then holds within each form": two batches that both open, with equal counts, equal slices up to
+-- "Equal contents then have equal bytes", and from Three on "One batch per content then holds within each form": two batches that both open, with equal counts (k among them), equal slices up to
 -- the counts, equal sampled and digest, and the same row command, are the same.
 use mathlib.Core.Path.{_≡_}
 use mathlib.Core.List.{List}

@@ -23,7 +23,7 @@ opened batch lent =
     openAnswer batch (length (lent .trace)) (length (lent .op-stack)) (length (lent .ram)) (length (lent .jump-stack)) (length (lent .sampled))
     (length (lent .digest)) (length (lent .input)) (length (lent .output))
 
--- what it leaves in the slices
+-- what it leaves in the slices; k is none
 abbrev pub slicesAfter : List ℕ → Contents → Contents
 slicesAfter batch lent =
     let answer = opened batch lent in
@@ -36,9 +36,10 @@ slicesAfter batch lent =
       digest = openSlice answer DIGEST batch (lent .digest);
       input = openSlice answer INPUT batch (lent .input);
       output = openSlice answer OUTPUT batch (lent .output);
+      log2-height = lent .log2-height;
     }
 
--- slices up to the counts; sampled and digest are whole
+-- slices up to the counts; sampled and digest are whole, and k is the seventh count
 abbrev pub upTo : Counts → Contents → Contents
 upTo counts slices =
     record {
@@ -50,13 +51,14 @@ upTo counts slices =
       digest = slices .digest;
       input = take (counts .input) (slices .input);
       output = take (counts .output) (slices .output);
+      log2-height = counts .«log2_height»;
     }
 
 -- the form of a batch's rows, by its row command; open does not answer it
 abbrev pub rowForm : List ℕ → Form
 rowForm batch = formOf (commandsOf (reading batch))
 
--- the six counts of given contents
+-- the seven counts of given contents
 abbrev pub countsOf : Contents → Counts
 countsOf contents =
     record {
@@ -66,4 +68,5 @@ countsOf contents =
       «jump_stack» = length (contents .jump-stack);
       input = length (contents .input);
       output = length (contents .output);
+      «log2_height» = contents .log2-height;
     }

@@ -39,6 +39,7 @@ withSortedLists contents =
       digest = contents .digest;
       input = contents .input;
       output = contents .output;
+      log2-height = contents .log2-height;
     }
 
 -- slices that open takes

@@ -185,8 +185,12 @@ fn plain_open(bytes: &[u8], slices: [&mut [u64]; 8], counts: &mut [u64]) -> u32 
     batch::open(bytes, slices, counts).1
 }
 
+fn plain_write(slices: [&[u64]; 8], form: Form, bytes: &mut [u8]) -> u32 {
+    batch::write(slices, form, 0, bytes)
+}
+
 fn ours_write(slices: [&[u64]; 8], form: Form, bytes: &mut [u8]) -> u32 {
-    abi::write(slices, form as u64, bytes)
+    abi::write(slices, form as u64, 0, bytes)
 }
 
 /// What a batch brings.
@@ -205,13 +209,13 @@ impl Contents {
 
     /// The bytes of its batch.
     fn length(&self) -> usize {
-        batch::length(&self.slices())
+        batch::length(&self.slices(), 0)
     }
 
     /// 200 calls that open it, with rows in this form.
     fn opens(&self, form: Form, open: Open) -> impl FnMut() {
         let mut bytes = vec![0; self.length()];
-        assert_eq!(batch::write(self.slices(), form, &mut bytes), 0);
+        assert_eq!(batch::write(self.slices(), form, 0, &mut bytes), 0);
         let mut lent = LENGTHS.map(|length| vec![0; length]);
         move || {
             for _ in 0..200 {
@@ -413,7 +417,7 @@ fn main() {
             let name = if form == Form::Plain { "" } else { ", 0A" };
             let (name, length) = (format!("{name}, {} bytes", contents.length()), contents.length());
             side_by_side(&format!("open a byte{name}"), 200 * length, contents.opens(form, abi::open), contents.opens(form, plain_open));
-            side_by_side(&format!("write a byte{name}"), 200 * length, contents.writes(form, ours_write), contents.writes(form, batch::write));
+            side_by_side(&format!("write a byte{name}"), 200 * length, contents.writes(form, ours_write), contents.writes(form, plain_write));
         }
     }
 

@@ -1,6 +1,6 @@
 //! A reader and a writer of batches as the papers describe them, command by command.
 
-use tealbobbin::batch::{Form, MAX_BYTES, MAX_DIFFERENCES, MAX_IO_WORDS, MAX_TRACE_ROWS};
+use tealbobbin::batch::{Form, MAX_BYTES, MAX_DIFFERENCES, MAX_IO_WORDS, MAX_LOG2_HEIGHT, MAX_TRACE_ROWS};
 use tealbobbin::challenges::SampledChallenges;
 use tealbobbin::field::P;
 use tealbobbin::processor::MAIN_WIDTH;
@@ -17,17 +17,17 @@ pub const LENGTHS: [usize; 9] = [
     5,
     MAX_IO_WORDS,
     MAX_IO_WORDS,
-    6,
+    7,
 ];
 
 /// The operand's width in bytes, by command.
-const WIDTHS: [usize; 11] = [0, 4, 312, 8, 8, 8, 1416, 40, 8, 8, 312];
+const WIDTHS: [usize; 12] = [0, 4, 312, 8, 8, 8, 1416, 40, 8, 8, 312, 1];
 
 /// The least byte that is no command.
 pub const UNKNOWN: u8 = WIDTHS.len() as u8;
 
-/// Each command's place in a batch's order, which is 01, 07, 08, 09, 06, rows, 03, 04, 05, 00.
-const RANKS: [usize; 11] = [9, 0, 5, 6, 7, 8, 4, 1, 2, 3, 5];
+/// Each command's place in a batch's order, which is 01, 0B, 07, 08, 09, 06, rows, 03, 04, 05, 00.
+const RANKS: [usize; 12] = [10, 0, 6, 7, 8, 9, 5, 2, 3, 4, 6, 1];
 
 /// The place of a command, with its operand or without, in that order.
 pub fn rank(command: &[u8]) -> Option<usize> {
@@ -52,6 +52,20 @@ pub fn other(form: Form) -> Form {
     }
 }
 
+/// Whether 2^k rows are no height for a trace of so many rows.
+pub fn is_wrong_height(k: u64, rows: usize) -> bool {
+    k == 0 || k > MAX_LOG2_HEIGHT.into() || 1 << k < rows
+}
+
+/// The height of the table for a trace of so many rows, where a batch has this k, or 0 for none.
+pub fn height(k: u64, rows: usize) -> usize {
+    if k > 0 {
+        1 << k
+    } else {
+        rows.next_power_of_two().max(2)
+    }
+}
+
 /// The rows that were met up to the answer.
 #[derive(Debug, Clone, Copy, PartialEq, Eq)]
 pub enum Rows {
@@ -63,16 +77,19 @@ pub enum Rows {
 const SAMPLED: usize = 4;
 const DIGEST: usize = 5;
 
-/// The words that a batch brings for each of the eight slices, or the number of its refusal; and the rows that were met.
-pub fn read(bytes: &[u8]) -> (Rows, Result<[Vec<u64>; 8], u32>) {
+/// The words that a batch brings for each of the eight slices, and its k, or 0 for none.
+pub type Brought = ([Vec<u64>; 8], u64);
+
+/// What a batch brings, or the number of its refusal; and the rows that were met.
+pub fn read(bytes: &[u8]) -> (Rows, Result<Brought, u32>) {
     let mut rows = Rows::None;
     let brought = read_rows(bytes, &mut rows);
     (rows, brought)
 }
 
-fn read_rows(bytes: &[u8], met: &mut Rows) -> Result<[Vec<u64>; 8], u32> {
+fn read_rows(bytes: &[u8], met: &mut Rows) -> Result<Brought, u32> {
     let [mut brought @ .., _] = LENGTHS.map(Vec::with_capacity);
-    let (mut announced, mut reached) = (None, 0);
+    let (mut announced, mut k, mut reached) = (None, 0, 0);
     let mut rest = bytes;
     while let Some((&command, operands)) = rest.split_first() {
         let width = *WIDTHS.get(command as usize).ok_or(7u32)?;
@@ -86,7 +103,19 @@ fn read_rows(bytes: &[u8], met: &mut Rows) -> Result<[Vec<u64>; 8], u32> {
             (1, Some(_)) | (_, None) => return Err(9),
             (0, Some(rows)) => {
                 let whole = brought[0].len() == rows * MAIN_WIDTH && !brought[SAMPLED].is_empty() && !brought[DIGEST].is_empty();
-                return if whole && after.is_empty() { Ok(brought) } else { Err(9) };
+                return if whole && after.is_empty() { Ok((brought, k)) } else { Err(9) };
+            }
+            (11, Some(rows)) => {
+                if k > 0 {
+                    return Err(9);
+                }
+                if RANKS[11] < reached {
+                    return Err(10);
+                }
+                (k, reached) = (operand[0].into(), RANKS[11]);
+                if is_wrong_height(k, rows) {
+                    return Err(12);
+                }
             }
             (_, Some(rows)) => {
                 let form = FORMS.into_iter().find(|&form| row_command(form) == command);
@@ -126,9 +155,9 @@ pub fn open(bytes: &[u8], slices: [&mut [u64]; 8], counts: &mut [u64]) -> (Rows,
     }
     let (rows, brought) = read(bytes);
     let number = match brought {
-        Ok(brought) => {
+        Ok((brought, k)) => {
             let [rows, op_stack, ram, jump_stack, _, _, input, output] = brought.each_ref().map(|words| words.len() as u64);
-            counts.copy_from_slice(&[rows / MAIN_WIDTH as u64, op_stack, ram, jump_stack, input, output]);
+            counts.copy_from_slice(&[rows / MAIN_WIDTH as u64, op_stack, ram, jump_stack, input, output, k]);
             for (slice, words) in slices.into_iter().zip(brought) {
                 slice[..words.len()].copy_from_slice(&words);
             }
@@ -139,10 +168,10 @@ pub fn open(bytes: &[u8], slices: [&mut [u64]; 8], counts: &mut [u64]) -> (Rows,
     (rows, number)
 }
 
-/// The bytes of the batch with these slices' contents, whatever their lengths.
-pub fn length(slices: &[&[u64]; 8]) -> usize {
+/// The bytes of the batch with these slices' contents, whatever their lengths, and 2^k rows, or 0 for none.
+pub fn length(slices: &[&[u64]; 8], k: u64) -> usize {
     let [trace, op_stack, ram, jump_stack, _, _, input, output] = slices.map(|slice| slice.len());
-    1464 + 313 * (trace / MAIN_WIDTH) + 9 * (op_stack + ram + jump_stack + input + output)
+    1464 + 313 * (trace / MAIN_WIDTH) + 9 * (op_stack + ram + jump_stack + input + output) + if k == 0 { 0 } else { 2 }
 }
 
 /// A command with words for its operand; answers the bytes after it.
@@ -166,8 +195,9 @@ fn put_sorted<'a>(bytes: &'a mut [u8], command: u8, words: &[u64]) -> &'a mut [u
     put_each(bytes, command, &sorted, 1)
 }
 
-/// Writes the batch with these slices' contents and rows of this form: 0, or the number of the refusal with nothing written.
-pub fn write(slices: [&[u64]; 8], form: Form, bytes: &mut [u8]) -> u32 {
+/// Writes the batch with these slices' contents, rows of this form and 2^k rows, or 0 for none: 0, or the number of the refusal with
+/// nothing written.
+pub fn write(slices: [&[u64]; 8], form: Form, k: u64, bytes: &mut [u8]) -> u32 {
     let [trace, op_stack, ram, jump_stack, sampled, digest, input, output] = slices;
     let rows = trace.len() / MAIN_WIDTH;
     if trace.len() % MAIN_WIDTH != 0
@@ -175,12 +205,15 @@ pub fn write(slices: [&[u64]; 8], form: Form, bytes: &mut [u8]) -> u32 {
         || [input, output].iter().any(|words| words.len() > MAX_IO_WORDS)
         || sampled.len() != SampledChallenges::WORDS
         || digest.len() != 5
-        || bytes.len() != length(&slices)
+        || bytes.len() != length(&slices, k)
     {
         return 1;
     }
     if rows == 0 || rows > MAX_TRACE_ROWS {
         return 3;
+    }
+    if k != 0 && is_wrong_height(k, rows) {
+        return 12;
     }
     if slices.iter().any(|slice| slice.iter().any(|&word| word >= P)) {
         return 2;
@@ -188,6 +221,14 @@ pub fn write(slices: [&[u64]; 8], form: Form, bytes: &mut [u8]) -> u32 {
     let (announced, rest) = bytes.split_at_mut(5);
     announced[0] = 1;
     announced[1..].copy_from_slice(&(rows as u32).to_le_bytes());
+    let rest = match k {
+        0 => rest,
+        _ => {
+            let (height, rest) = rest.split_at_mut(2);
+            height.copy_from_slice(&[11, k as u8]);
+            rest
+        }
+    };
     let rest = put(rest, 7, digest);
     let rest = put_each(rest, 8, input, 1);
     let rest = put_each(rest, 9, output, 1);

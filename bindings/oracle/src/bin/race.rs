@@ -2,15 +2,24 @@
 //! runs of each, and the library's time over the original's. Growth is the library's time over that at the size before.
 //! The original's tables lie column by column; it also runs on tables that lie row by row, as the library's do, and its better
 //! time counts.
+//!
+//!     race [terminals]
+//!
+//! The last table has the walk of padding rows beside the original's fill, pad and extension of the whole table. With the word it is
+//! the only one, and goes on to 2^20 rows, and to 2^22 for the library alone.
 
 use std::hint::black_box;
 use std::time::{Duration, Instant};
 
 use compare::extensions::Extend;
+use compare::plain::batch;
+use compare::plain::extension::column::{CI, IS_PADDING, NIA};
+use compare::plain::extension::opcode::MERKLE_STEP;
 use compare::random::Random;
-use oracle::rows::{Mix, REALISTIC, WORST, mixed};
+use oracle::rows::{HALT, Mix, OPCODES, REALISTIC, WORST, mixed};
 use oracle::{Claimed, Differences, Extension, Items, MAIN_WIDTH, Main, Order, Sampled, Trace};
 use tealbobbin::abi;
+use tealbobbin::batch::{Form, MAX_TRACE_ROWS};
 use tealbobbin::field::P;
 
 /// The chunk length of extension.
@@ -147,23 +156,107 @@ fn scan(random: &mut Random, width: usize, hold: fn(&[u64]) -> Items, scan: Scan
     times
 }
 
-/// One line for each size.
-fn lines(what: &str, sizes: &[usize], mut race: impl FnMut(usize) -> Times) {
-    let mut before = None;
+/// One line for each size; answers the ratios.
+fn lines(what: &str, sizes: &[usize], mut race: impl FnMut(usize) -> Times) -> Vec<f64> {
+    let (mut before, mut ratios) = (None, vec![]);
     for &size in sizes {
         let [original, library] = race(size);
+        ratios.push(library / original);
         let growth = before.map_or(String::new(), |before: f64| format!("{:.2}", library / before));
         println!("{what:<20} {size:>8} {original:>10.1} {library:>10.1} {:>8.2} {growth:>8}", library / original);
         before = Some(library);
     }
+    ratios
 }
 
 fn header(first: &str, second: &str) {
     println!("{:<20} {:>8} {first:>10} {second:>10} {:>8} {:>8}", "nanoseconds", "size", "ratio", "growth");
 }
 
+/// What a batch brings: as many trace rows as it may, each with this instruction, and differences for every row.
+fn run(random: &mut Random, code: u64) -> [Vec<u64>; 8] {
+    let mut trace = words(random, MAX_TRACE_ROWS * MAIN_WIDTH);
+    trace.chunks_exact_mut(MAIN_WIDTH).for_each(|row| (row[CI], row[NIA], row[IS_PADDING]) = (code, 5, 0));
+    let [op_stack, ram, jump_stack] = [(); 3].map(|()| (0..MAX_TRACE_ROWS as u64).collect());
+    [trace, op_stack, ram, jump_stack, words(random, 177), words(random, 5), vec![], vec![]]
+}
+
+/// Its batch at 2^k rows.
+fn sent(contents: &[Vec<u64>; 8], k: u32) -> Vec<u8> {
+    let slices = contents.each_ref().map(Vec::as_slice);
+    let mut bytes = vec![0; batch::length(&slices, k.into())];
+    assert_eq!(batch::write(slices, Form::Plain, k.into(), &mut bytes), 0);
+    bytes
+}
+
+fn walk(bytes: &[u8]) -> Duration {
+    let mut cells = [0; 33];
+    timed(|| assert_eq!(abi::terminals(black_box(bytes), &mut cells), 0))
+}
+
+/// The library's times over all instructions that a trace may end in, each the best of nine.
+fn every_instruction(random: &mut Random) {
+    let rows = 1 << 18;
+    let times = OPCODES.map(|code| {
+        let bytes = sent(&run(random, code), 18);
+        (0..9).map(|_| walk(&bytes).as_secs_f64() * 1e9 / rows as f64).fold(f64::INFINITY, f64::min)
+    });
+    let [least, most] = [f64::min as fn(f64, f64) -> f64, f64::max].map(|of| times.into_iter().reduce(of).expect("46 instructions"));
+    println!("{:<20} {rows:>8} {:>10} {least:>10.1} to {most:.1}", "walk, any", "");
+}
+
+/// A trace that ends in this instruction: from the batch to the cells, and the original's fill, pad and extension.
+fn terminals(random: &mut Random, last: u64, height: usize) -> Times {
+    let contents = run(random, last);
+    let [trace, op_stack, ram, jump_stack, sampled, digest, ..] = contents.each_ref().map(Vec::as_slice);
+    let record = oracle::challenges(sampled, digest.try_into().expect("five words"), &[], &[]).expect("59 elements");
+    let (original, differences) = (Trace::new(trace), Differences::new([op_stack, ram, jump_stack]));
+    let [mut by_columns, mut by_rows] = [Order::Columns, Order::Rows].map(|order| Extension::blank(height, &record, order));
+    let whole = |table: &mut Extension| {
+        let differences = differences.clone();
+        timed(|| table.from_trace(&original, differences))
+    };
+    let bytes = sent(&contents, height.ilog2());
+    let [columns, row_by_row, library] =
+        best(height, [&mut || whole(&mut by_columns), &mut || whole(&mut by_rows), &mut || walk(&bytes)]);
+    let mut cells = [0; 33];
+    assert_eq!(abi::terminals(&bytes, &mut cells), 0);
+    assert!(cells == by_columns.last_row() && cells == by_rows.last_row());
+    [columns.min(row_by_row), library]
+}
+
+/// Traces that end in halt, and in an instruction whose padding rows bring entries to as many columns as any, each with the ratio
+/// that it is to keep below at 2^18 rows.
+const ENDS: [(&str, u64, f64); 2] = [("walk, halt", HALT, 0.1), ("walk, merkle_step", MERKLE_STEP, 0.2)];
+
+fn terminals_at(random: &mut Random, heights: &[usize]) {
+    header("original", "library");
+    for (what, last, limit) in ENDS {
+        let ratios = lines(what, heights, |height| terminals(random, last, height));
+        if heights.iter().zip(ratios).any(|(&height, ratio)| height == 1 << 18 && ratio > limit) {
+            println!("{what}: over {limit} at 2^18 rows");
+        }
+    }
+    every_instruction(random);
+}
+
 fn main() {
     let random = &mut Random(7);
+    match std::env::args().nth(1).as_deref() {
+        None => tables(random),
+        Some("terminals") => {
+            terminals_at(random, &[1 << 12, 1 << 16, 1 << 18, 1 << 20]);
+            for (what, last, _) in ENDS {
+                let (bytes, rows) = (sent(&run(random, last), 22), 1 << 22);
+                let [library] = best(rows, [&mut || walk(&bytes)]);
+                println!("{what:<20} {rows:>8} {:>10} {library:>10.1}", "");
+            }
+        }
+        Some(other) => panic!("{other}: race [terminals]"),
+    }
+}
+
+fn tables(random: &mut Random) {
     header("original", "library");
     let rows = [1 << 12, 1 << 16, 1 << 18];
     lines("extend, realistic", &rows, |rows| extend(random, REALISTIC, rows, rows / 4, 10));
@@ -179,4 +272,5 @@ fn main() {
     header("extend", "strictly");
     lines("extend, realistic", &rows, |rows| extend_strict(random, REALISTIC, rows, rows / 4, 10));
     lines("extend, worst", &rows, |rows| extend_strict(random, WORST, rows, 0, 1));
+    terminals_at(random, &rows);
 }

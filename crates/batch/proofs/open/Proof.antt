@@ -1,22 +1,23 @@
 -- Nothing is written on a refusal; else each slice begins with what the batch brings for it.
 use borrow.Author.Needs.{needs}
-use mathlib.Core.Path.{_≡_, refl, sym, _∙_}
-use mathlib.Core.Bool.{true}
+use mathlib.Core.Path.{_≡_, refl, sym, ap, _∙_}
+use mathlib.Core.Bool.{true, cond}
 use mathlib.Core.List.{List}
 use Prim.Native.Nat.{ℕ}
-use lib.Dec.{lit<}
+use lib.Dec.{eqb, lit<}
 use lib.ListN.{length}
 use borrow.Author.Tests.{lt-ltb, le-ltb, not-true, not-false}
 use Rattle.field_montgomery.specs.declared.Form.{Form}
-use Rattle.batch_commands.specs.Format.{OP-STACK, RAM, JUMP-STACK, SAMPLED, DIGEST, INPUT, OUTPUT}
+use Rattle.batch_commands.specs.Format.{OP-STACK, RAM, JUMP-STACK, SAMPLED, DIGEST, INPUT, OUTPUT, rank}
 use Rattle.batch_reader.specs.declared.OpenAnswer.the-variants.{Opened}
 use Rattle.batch_reader.specs.Commands.{formOf}
 use Rattle.batch_reader.specs.Reading.{read, reading, commandsOf}
 use Rattle.batch_reader.specs.Answers.{answerOf, brought}
+use Rattle.batch_reader.specs.Steps.{bytesBelow}
 use Rattle.batch_commands.proofs.Tables.{of-any}
 use Rattle.batch_reader.proofs.Sections.{behind-first}
 use Rattle.batch.specs.Open.{rightLengths, openAnswer, openSlice}
-use Rattle.batch.proofs.Room.{is-read, Room, room}
+use Rattle.batch.proofs.Room.{is-read, height-is, Room, room}
 use Rattle.batch.proofs.open.Statement.{statement}
 use Rattle.batch.proofs.open.Tie as tie
 
@@ -50,7 +51,7 @@ has-room c = let s = start (looked c .before .before) in room (s .args .batch .n
 
 -- the batch was read to its end before each section
 abbrev told : tie.After-put-section → tie.After-answer2
-told c = c .before .before .before
+told c = c .before .before .before .before
 
 abbrev told-2 : tie.After-put-section2 → tie.After-answer2
 told-2 c = told (c .before .before .before .before)
@@ -93,9 +94,19 @@ enum-known-answer c = search needs
 enum-known-answer-2 : tie.Need-enum-known-answer-2
 enum-known-answer-2 c = search needs
 
+digest-at-requires : tie.Need-digest-at-requires
+digest-at-requires c κs = search needs
+
+-- 07 stands there
+digest-there : (c : tie.After-digest-at) → let t = c .before .before in c .digest-at .result ≡ bytesBelow (rank DIGEST) (commandsOf (reading (batch t)))
+digest-there c =
+    let t = c .before .before in
+    let k = height-is (batch t) (t .answer2 .given .0 .0) (opened t) in
+    c .digest-at .ensures ∙ ap (λ n. cond (eqb n 0) 5 7) k ∙ sym (behind-first (batch t) (commandsOf (reading (batch t))) (read-through t))
+
 put-section-requires : tie.Need-put-section-requires
 unfolding brought
-put-section-requires c κs = let t = c .before .before in (read-through t, ((lit< tt, lit< tt, of-any (form t) DIGEST refl), (sym (behind-first (batch t) (commandsOf (reading (batch t))) (read-through t)), has-room t .for-digest)))
+put-section-requires c κs = let t = c .before .before .before in (read-through t, ((lit< tt, lit< tt, of-any (form t) DIGEST refl), (digest-there (c .before), has-room t .for-digest)))
 
 put-section-requires-2 : tie.Need-put-section-requires-2
 unfolding brought
@@ -194,6 +205,7 @@ open-spec =
     read-requires
     enum-known-answer
     enum-known-answer-2
+    digest-at-requires
     put-section-requires
     put-section-requires-2
     put-section-requires-3

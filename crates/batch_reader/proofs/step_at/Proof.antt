@@ -17,14 +17,14 @@ abbrev start : tie.After-head → tie.Start
 start c = c .before .before .before
 
 whole : (c : tie.After-head) → let args = start c .args in let k = c .head .given .0 .0 in
-    (k < COMMANDS) × (args .at + 1 + width k ≤ length (args .batch .now)) × (stepOf (args .seen) (drop (args .at) (args .batch .now)) ≡ stepBy (judged (args .seen) k (drop (args .at + 1) (args .batch .now))) k (args .seen .came))
+    (k < COMMANDS) × (args .at + 1 + width k ≤ length (args .batch .now)) × (stepOf (args .seen) (drop (args .at) (args .batch .now)) ≡ stepBy (judged (args .seen) k (drop (args .at + 1) (args .batch .now))) k (args .seen .came) (args .seen .«log2_height»))
 whole c =
     let args = start c .args in
     let w = whole-step (args .seen) (drop (args .at) (args .batch .now)) (c .head .given .0 .0) (sym (start c .pre) ∙ c .head .given .1) in
     let fits : args .at + 1 + width (c .head .given .0 .0) ≤ length (args .batch .now) = omega (arith, w .1, length-drop (args .at) (args .batch .now)) in
     (w .0, fits, rw drop-drop at (w .2))
 
-by-judge : (c : tie.After-judge) → let told = c .before .before .before in let args = start told .args in stepOf (args .seen) (drop (args .at) (args .batch .now)) ≡ stepBy (c .judge .result) (told .head .given .0 .0) (args .seen .came)
+by-judge : (c : tie.After-judge) → let told = c .before .before .before in let args = start told .args in stepOf (args .seen) (drop (args .at) (args .batch .now)) ≡ stepBy (c .judge .result) (told .head .given .0 .0) (args .seen .came) (args .seen .«log2_height»)
 by-judge c = rw (c .judge .ensures) (whole (c .before .before .before) .2)
 
 enum-told : tie.Need-enum-told

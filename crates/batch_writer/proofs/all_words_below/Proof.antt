@@ -8,7 +8,7 @@ use Rattle.batch_writer.proofs.all_words_below.Statement.{statement}
 use Rattle.batch_writer.proofs.all_words_below.Tie as tie
 
 abbrev given : tie.Start → Contents
-given s = contentsOf (s .args .trace .now) (s .args .op-stack .now) (s .args .ram .now) (s .args .jump-stack .now) (s .args .sampled .now) (s .args .digest .now) (s .args .input .now) (s .args .output .now)
+given s = contentsOf (s .args .trace .now) (s .args .op-stack .now) (s .args .ram .now) (s .args .jump-stack .now) (s .args .sampled .now) (s .args .digest .now) (s .args .input .now) (s .args .output .now) 0
 
 abbrev start1 : tie.After-all-below → tie.Start
 start1 c = c .before .before .before .before .before .before .before .before .before

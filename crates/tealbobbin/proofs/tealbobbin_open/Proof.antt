@@ -1,4 +1,4 @@
--- What `open` answers and leaves, where `counts` has six words.
+-- What `open` answers and leaves, where `counts` has seven words.
 use mathlib.Core.Path.{_≡_, sym, ap, _∙_}
 use mathlib.Core.List.{List}
 use Prim.Native.Nat.{ℕ}
@@ -12,12 +12,12 @@ use native.Mathlib.Omega.{arith}
 use Rattle.tealbobbin.proofs.tealbobbin_open.Statement.{statement}
 use Rattle.tealbobbin.proofs.tealbobbin_open.Tie as tie
 
-six : (batch : List ℕ) (lent : Slices) → length (lent .counts) ≡ 6
+seven : (batch : List ℕ) (lent : Slices) → length (lent .counts) ≡ 7
     → openInto batch lent
     ≡ openAnswer batch (length (lent .trace)) (length (lent .op-stack)) (length (lent .ram)) (length (lent .jump-stack)) (length (lent .sampled))
     (length (lent .digest)) (length (lent .input)) (length (lent .output))
 unfolding openInto
-six batch lent h = rw (eq-eqb _ 6 h)
+seven batch lent h = rw (eq-eqb _ 7 h)
 
 -- The nine slices as one record.
 all : (batch : List ℕ) (lent : Slices) {answer : OpenAnswer} {trace op-stack ram jump-stack sampled digest input output counts : List ℕ}
@@ -36,7 +36,7 @@ all batch lent same t o r j s d i u k = rw (same, t, o, r, j, s, d, i, u, k)
 
 returns : tie.Need-returns
 unfolding openInto openSlice
-returns c = let e = ne-eqb _ 6 (c .if1 .taken) in (rw e, rw e)
+returns c = let e = ne-eqb _ 7 (c .if1 .taken) in (rw e, rw e)
 
 open-requires : tie.Need-open-requires
 open-requires c κs = search needs
@@ -79,7 +79,7 @@ returns-2 c =
     let tested = at-open .before .before .before .before .before .before .before .before .before in
     let args = tested .before .before .before .before .before .before .before .before .before .before .before .args in
     let lent = slices (args .trace .now) (args .op-stack .now) (args .ram .now) (args .jump-stack .now) (args .sampled .now) (args .digest .now) (args .input .now) (args .output .now) (args .counts .now) in
-    let same = six (args .batch .now) lent (tested .if1 .left) ∙ sym (o .0) in (
+    let same = seven (args .batch .now) lent (tested .if1 .left) ∙ sym (o .0) in (
       put .0 ∙ ap openNumber (sym same),
       all (args .batch .now) lent
           same

@@ -1,18 +1,35 @@
 //! Opening, and writing what was opened.
 
 use compare::builder::Builder;
-use compare::plain::batch::{self, other, rank, row_command, Rows, FORMS, LENGTHS, UNKNOWN};
+use compare::plain::batch::{self, is_wrong_height, other, rank, row_command, Rows, FORMS, LENGTHS, UNKNOWN};
 use compare::plain::to_montgomery;
 use compare::random::{Random, EDGES};
 use compare::tally::Tally;
 use tealbobbin::abi;
-use tealbobbin::batch::{Form, MAX_BYTES, MAX_DIFFERENCES, MAX_IO_WORDS};
+use tealbobbin::batch::{Form, MAX_BYTES, MAX_DIFFERENCES, MAX_IO_WORDS, MAX_LOG2_HEIGHT};
 use tealbobbin::field::P;
 use tealbobbin::processor::MAIN_WIDTH;
 
 /// The commands with a word for their operand, and how many of each there may be.
 const LISTS: [(u8, usize); 5] =
     [(3, MAX_DIFFERENCES), (4, MAX_DIFFERENCES), (5, MAX_DIFFERENCES), (8, MAX_IO_WORDS), (9, MAX_IO_WORDS)];
+
+/// The form of a batch's rows, and whether it sets a height.
+#[derive(Clone, Copy)]
+struct Made {
+    form: Form,
+    high: bool,
+}
+
+const MADE: [Made; 4] = [
+    Made { form: Form::Plain, high: false },
+    Made { form: Form::Plain, high: true },
+    Made { form: Form::Montgomery, high: false },
+    Made { form: Form::Montgomery, high: true },
+];
+
+/// What a batch that opens may be.
+const KINDS: [&str; 2] = ["opened without 0B", "opened with 0B"];
 
 /// The nine slices in one row of words, each followed by a word that is lent to nobody.
 struct Opening<'a> {
@@ -49,7 +66,12 @@ fn call<T>(open: impl Fn(&[u8], [&mut [u64]; 8], &mut [u64]) -> T, bytes: &[u8],
 
 impl Opening<'_> {
     fn new(random: &mut Random) -> Opening<'_> {
-        let tallies = ["open, no row met", "open, plain rows", "open, rows in Montgomery form", "open, mixed rows"].map(Tally::new);
+        let tallies = [
+            Tally::new("open, no row met"),
+            Tally::of_kinds("open, plain rows", &KINDS),
+            Tally::of_kinds("open, rows in Montgomery form", &KINDS),
+            Tally::new("open, mixed rows"),
+        ];
         let again = ["write, what opened, plain rows", "write, what opened, rows in Montgomery form"].map(Tally::new);
         let mut opening = Opening { tallies, again, random, lengths: LENGTHS, before: vec![], ours: vec![], expected: vec![] };
         opening.lend(LENGTHS);
@@ -75,6 +97,10 @@ impl Opening<'_> {
             Rows::Mixed => 3,
         };
         self.tallies[tally].check(what, &shown, &self.before, (got, &self.ours), number, &self.expected);
+        if number == 0 {
+            let [.., counts] = slices(&self.expected, self.lengths);
+            self.tallies[tally].count((counts[6] > 0).into());
+        }
         match rows {
             Rows::Of(form) if number == 0 && got == 0 && self.ours == self.expected => self.write_again(what, &shown, form, bytes),
             _ => (),
@@ -88,12 +114,12 @@ impl Opening<'_> {
     /// The batch that was opened is the one that its contents are written as, in this form.
     fn write_again(&mut self, what: &str, shown: &[u64], form: Form, bytes: &[u8]) {
         let [contents @ .., counts] = slices(&self.ours, self.lengths);
-        let [rows, op_stack, ram, jump_stack, input, output] = std::array::from_fn(|count| counts[count] as usize);
+        let [rows, op_stack, ram, jump_stack, input, output, _] = std::array::from_fn(|count| counts[count] as usize);
         let brought = [rows * MAIN_WIDTH, op_stack, ram, jump_stack, LENGTHS[4], LENGTHS[5], input, output];
         let contents = std::array::from_fn(|slice| &contents[slice][..brought[slice]]);
         let before = vec![0xa5; bytes.len()];
         let mut written = before.clone();
-        let got = abi::write(contents, form as u64, &mut written);
+        let got = abi::write(contents, form as u64, counts[6], &mut written);
         self.again[form as usize].check(what, shown, &before, (got, &written), 0, bytes);
     }
 
@@ -142,12 +168,21 @@ fn is_row(command: &[u8]) -> bool {
     FORMS.iter().any(|&form| row_command(form) == command[0])
 }
 
-/// A batch with these counts, and rows of this form.
-fn whole(random: &mut Random, form: Form, rows: usize, counts: [usize; 5]) -> Builder {
+/// A k whose 2^k rows hold a trace of so many.
+pub fn any_height(random: &mut Random, rows: usize) -> u64 {
+    let least = rows.next_power_of_two().max(2).ilog2();
+    (least + random.word() as u32 % (MAX_LOG2_HEIGHT + 1 - least)).into()
+}
+
+/// A batch with these counts, made so.
+fn whole(random: &mut Random, made: Made, rows: usize, counts: [usize; 5]) -> Builder {
     let mut batch = Builder::default();
     batch.rows(rows as u32).command(6, &words(random, 177)).command(7, &words(random, 5));
+    if made.high {
+        batch.height(any_height(random, rows) as u8);
+    }
     for _ in 0..rows {
-        batch.row_as_sent(form, &row(random, form));
+        batch.row_as_sent(made.form, &row(random, made.form));
     }
     for ((command, _), count) in LISTS.into_iter().zip(counts) {
         for _ in 0..count {
@@ -158,37 +193,42 @@ fn whole(random: &mut Random, form: Form, rows: usize, counts: [usize; 5]) -> Bu
 }
 
 /// The same with as many of everything as there may be.
-fn largest(random: &mut Random, form: Form) -> Builder {
-    whole(random, form, 32, LISTS.map(|list| list.1))
+fn largest(random: &mut Random, made: Made) -> Builder {
+    whole(random, made, 32, LISTS.map(|list| list.1))
 }
 
-/// The same with form and counts at random, most of them low.
+/// The bytes of that.
+fn most_bytes(made: Made) -> usize {
+    16_088 + if made.high { 2 } else { 0 }
+}
+
+/// The same made at random, with counts at random, most of them low.
 fn random_whole(random: &mut Random) -> Builder {
-    let form = FORMS[below(random, 2)];
+    let made = MADE[below(random, MADE.len())];
     let most = [1, 1, 1, 2, 3, 128][below(random, 6)];
     let rows = 1 + below(random, most.min(32));
     let counts = LISTS.map(|(_, list)| below(random, most.min(list) + 1));
-    whole(random, form, rows, counts)
+    whole(random, made, rows, counts)
 }
 
-/// In each form every number of rows, every count of each list, and the largest batch; `count` others.
+/// Made in each way every number of rows, every count of each list, and the largest batch; `count` others.
 fn sound(opening: &mut Opening, count: u64) {
-    for form in FORMS {
+    for made in MADE {
         for rows in 1..=32 {
-            let batch = whole(opening.random, form, rows, [rows, 0, 1, 2, 3]);
+            let batch = whole(opening.random, made, rows, [rows, 0, 1, 2, 3]);
             opening.expect("rows", &batch.bytes(), 0);
         }
         for (list, (_, most)) in LISTS.into_iter().enumerate() {
             for n in 0..=most {
                 let mut counts = [0; 5];
                 counts[list] = n;
-                let batch = whole(opening.random, form, 1, counts);
+                let batch = whole(opening.random, made, 1, counts);
                 opening.expect("counts", &batch.bytes(), 0);
             }
         }
         for _ in 0..100 {
-            let bytes = largest(opening.random, form).bytes();
-            assert_eq!(bytes.len(), 16_088);
+            let bytes = largest(opening.random, made).bytes();
+            assert_eq!(bytes.len(), most_bytes(made));
             opening.expect("largest", &bytes, 0);
         }
     }
@@ -199,8 +239,8 @@ fn sound(opening: &mut Opening, count: u64) {
 }
 
 /// Slices of other lengths.
-fn lengths(opening: &mut Opening, form: Form) {
-    let (least, most) = (whole(opening.random, form, 1, [1; 5]).bytes(), largest(opening.random, form).bytes());
+fn lengths(opening: &mut Opening, made: Made) {
+    let (least, most) = (whole(opening.random, made, 1, [1; 5]).bytes(), largest(opening.random, made).bytes());
     let batches = [least, most, vec![], vec![UNKNOWN], vec![0; MAX_BYTES + 1]];
     for (slice, length) in LENGTHS.into_iter().enumerate() {
         for other in [0, length - 1, length + 1, length + MAIN_WIDTH, 2 * length, LENGTHS[(slice + 4) % 9]] {
@@ -218,9 +258,9 @@ fn lengths(opening: &mut Opening, form: Form) {
 }
 
 /// Batches cut off at every length; every byte changed; every command byte in every command's place.
-fn every_byte(opening: &mut Opening, form: Form) {
-    let [least, some] = [(1, [0; 5]), (3, [2; 5])].map(|(rows, counts)| whole(opening.random, form, rows, counts));
-    for batch in [&least, &some, &largest(opening.random, form)] {
+fn every_byte(opening: &mut Opening, made: Made) {
+    let [least, some] = [(1, [0; 5]), (3, [2; 5])].map(|(rows, counts)| whole(opening.random, made, rows, counts));
+    for batch in [&least, &some, &largest(opening.random, made)] {
         let bytes = batch.bytes();
         for length in 0..bytes.len() {
             opening.expect("cut off", &bytes[..length], 8);
@@ -246,8 +286,8 @@ fn every_byte(opening: &mut Opening, form: Form) {
 }
 
 /// A word that is not below p in every place of every operand; with a later fault, and with an earlier one.
-fn bad_words(opening: &mut Opening, form: Form) {
-    let batch = whole(opening.random, form, 2, [2; 5]);
+fn bad_words(opening: &mut Opening, made: Made) {
+    let batch = whole(opening.random, made, 2, [2; 5]);
     for (place, command) in batch.commands.iter().enumerate().filter(|(_, command)| command.len() > 8) {
         for from in (1..command.len()).step_by(8) {
             for word in [P, P + 1, u64::MAX, bad(opening.random)] {
@@ -267,11 +307,11 @@ fn bad_words(opening: &mut Opening, form: Form) {
 }
 
 /// Each edge word in every place of a row, as it is sent and, where the row is in Montgomery form, as it is opened.
-fn edge_words(opening: &mut Opening, form: Form) {
-    let batch = whole(opening.random, form, 2, [0; 5]);
+fn edge_words(opening: &mut Opening, made: Made) {
+    let batch = whole(opening.random, made, 2, [0; 5]);
     for (at, command) in batch.commands.iter().enumerate().filter(|(_, command)| is_row(command)) {
         for from in (1..command.len()).step_by(8) {
-            let opened = EDGES.into_iter().filter(|&word| form == Form::Montgomery && word < P).map(to_montgomery);
+            let opened = EDGES.into_iter().filter(|&word| made.form == Form::Montgomery && word < P).map(to_montgomery);
             for word in EDGES.into_iter().chain(opened) {
                 let mut batch = batch.clone();
                 batch.commands[at][from..from + 8].copy_from_slice(&word.to_le_bytes());
@@ -283,9 +323,10 @@ fn edge_words(opening: &mut Opening, form: Form) {
 
 /// One row in the other form, in every place among every number of rows: whole, cut off, with words not below p; and rows of either
 /// form behind a difference.
-fn mixtures(opening: &mut Opening, form: Form) {
+fn mixtures(opening: &mut Opening, made: Made) {
+    let form = made.form;
     for rows in 2..=32 {
-        let batch = whole(opening.random, form, rows, [1; 5]);
+        let batch = whole(opening.random, made, rows, [1; 5]);
         let first = batch.commands.iter().position(|command| is_row(command)).unwrap();
         for place in first..first + rows {
             let mut mixed = batch.clone();
@@ -313,7 +354,7 @@ fn mixtures(opening: &mut Opening, form: Form) {
 }
 
 /// 01 with every kind of number, and with other commands before it; rows missing and rows too many.
-fn rows(opening: &mut Opening, form: Form) {
+fn rows(opening: &mut Opening, made: Made) {
     let powers = (0..32).map(|k| 1u32 << k);
     for announced in (0..300).chain(powers).chain([u32::MAX, u32::MAX - 31, 1 << 24 | 1]) {
         let batch = Builder::default().rows(announced).clone();
@@ -324,14 +365,15 @@ fn rows(opening: &mut Opening, form: Form) {
     }
     for announced in 1..=32 {
         for rows in 1..=32 {
-            let mut batch = whole(opening.random, form, rows, [1; 5]);
+            let mut batch = whole(opening.random, made, rows, [1; 5]);
             batch.commands[0] = Builder::default().rows(announced as u32).bytes();
-            opening.expect("rows", &batch.bytes(), if announced == rows { 0 } else { 9 });
+            let low = made.high && is_wrong_height(batch.commands[1][1].into(), announced);
+            opening.expect("rows", &batch.bytes(), if low { 12 } else if announced == rows { 0 } else { 9 });
             batch.commands.pop();
-            opening.expect("rows without 00", &batch.bytes(), if rows > announced { 9 } else { 8 });
+            opening.expect("rows without 00", &batch.bytes(), if low { 12 } else if rows > announced { 9 } else { 8 });
         }
     }
-    let batch = whole(opening.random, form, 1, [1; 5]);
+    let batch = whole(opening.random, made, 1, [1; 5]);
     for first in 1..batch.commands.len() {
         let mut batch = batch.clone();
         batch.commands.swap(0, first);
@@ -347,13 +389,14 @@ fn rows(opening: &mut Opening, form: Form) {
 }
 
 /// One command more than there may be, in every place after the last that may: whole, with a bad word, cut off.
-fn past_counts(opening: &mut Opening, form: Form) {
-    let batch = whole(opening.random, form, 2, LISTS.map(|list| list.1));
+fn past_counts(opening: &mut Opening, made: Made) {
+    let batch = whole(opening.random, made, 2, LISTS.map(|list| list.1));
     let end = batch.commands.len() - 1;
-    for (command, width) in [(1, 4), (2, 312), (3, 8), (4, 8), (5, 8), (6, 1416), (7, 40), (8, 8), (9, 8), (10, 312)] {
+    let widths = [(1, 4), (2, 312), (3, 8), (4, 8), (5, 8), (6, 1416), (7, 40), (8, 8), (9, 8), (10, 312), (11, 1)];
+    for (command, width) in widths.into_iter().filter(|&(command, _)| made.high || command != 11) {
         let last = batch.commands.iter().rposition(|other| rank(other) == rank(&[command])).unwrap();
         for place in last + 1..=end {
-            for fill in [0, 255] {
+            for fill in [0, 1, 255] {
                 let mut before = Builder { commands: batch.commands[..place].to_vec() };
                 let operand = vec![fill; width];
                 opening.after("past a count", &before, &[&[command], &operand[..]].concat(), 9);
@@ -367,8 +410,8 @@ fn past_counts(opening: &mut Opening, form: Form) {
 }
 
 /// Every command moved to every place; one more of each list in every place; differences beside the one before, or far from it.
-fn orders(opening: &mut Opening, form: Form) {
-    let batch = whole(opening.random, form, 2, [2; 5]);
+fn orders(opening: &mut Opening, made: Made) {
+    let batch = whole(opening.random, made, 2, [2; 5]);
     let end = batch.commands.len() - 1;
     for from in 1..end {
         for to in 1..end {
@@ -400,7 +443,7 @@ fn orders(opening: &mut Opening, form: Form) {
             }
         }
     }
-    let least = whole(opening.random, form, 1, [0; 5]);
+    let least = whole(opening.random, made, 1, [0; 5]);
     for command in 3..=5 {
         for before in EDGES.into_iter().filter(|&word| word < P) {
             for word in EDGES.into_iter().chain([before.saturating_sub(1), before, before + 1]) {
@@ -413,13 +456,51 @@ fn orders(opening: &mut Opening, form: Form) {
     }
 }
 
-/// 00 in every place, with a command missing and with bytes after it; about 16,384 bytes; five commands in every order.
-fn ends(opening: &mut Opening, form: Form) {
-    let (batch, most) = (whole(opening.random, form, 3, [3; 5]), largest(opening.random, form));
+/// Every k with every number of rows; 0B in every place: one that the batch lacks, and a second one, with a k in range and not.
+fn heights(opening: &mut Opening, made: Made) {
+    for rows in 1..=32 {
+        for k in 0..=255 {
+            let begun = Builder::default().rows(rows as u32).height(k).clone();
+            let number = |right| if is_wrong_height(k.into(), rows) { 12 } else { right };
+            opening.after("height", &begun, &[], number(8));
+            opening.after("height, then no command", &begun, &[UNKNOWN], number(7));
+            opening.after("height, then 00", &begun, &[0], number(9));
+            opening.after("height, then another", &begun, &[11, k], number(9));
+            if made.high {
+                let mut batch = whole(opening.random, made, rows, [0; 5]);
+                batch.commands[1][1] = k;
+                opening.expect("height", &batch.bytes(), number(0));
+            }
+        }
+    }
+    for rows in [1, 2, 3, 32] {
+        let batch = whole(opening.random, made, rows, [1; 5]);
+        for place in 0..=batch.commands.len() {
+            for k in [0, 1, 2, 5, 22, 23, 128, 255] {
+                let (before, after) = batch.commands.split_at(place);
+                let before = Builder { commands: before.to_vec() };
+                let number = match (place, made.high) {
+                    (0, _) => 9,
+                    (1, _) if is_wrong_height(k.into(), rows) => 12,
+                    (1, true) => 9,
+                    (1, false) => 0,
+                    _ if made.high || after.is_empty() => 9,
+                    _ => 10,
+                };
+                opening.after("0B in any place", &before, &[&[11, k], &after.concat()[..]].concat(), number);
+                opening.after("0B cut off", &before, &[11], if after.is_empty() { 9 } else { 8 });
+            }
+        }
+    }
+}
+
+/// 00 in every place, with a command missing and with bytes after it; about 16,384 bytes; five commands in every order, also of six.
+fn ends(opening: &mut Opening, made: Made) {
+    let (batch, most) = (whole(opening.random, made, 3, [3; 5]), largest(opening.random, made));
     for place in 0..batch.commands.len() {
         let mut missing = batch.clone();
         let command = missing.commands.remove(place)[0];
-        let number = [8, 9, 9, 0, 0, 0, 9, 9, 0, 0, 9][command as usize];
+        let number = [8, 9, 9, 0, 0, 0, 9, 9, 0, 0, 9, 0][command as usize];
         opening.expect("missing", &missing.bytes(), number);
         let mut early = batch.clone();
         early.commands.insert(place, vec![0]);
@@ -432,7 +513,8 @@ fn ends(opening: &mut Opening, form: Form) {
     for length in MAX_BYTES - 300..MAX_BYTES + 300 {
         let mut bytes = most.bytes();
         bytes.resize(length, length as u8);
-        let number = if length > MAX_BYTES { 1 } else if length == 16_088 { 0 } else if length < 16_088 { 8 } else { 9 };
+        let whole = most_bytes(made);
+        let number = if length > MAX_BYTES { 1 } else if length == whole { 0 } else if length < whole { 8 } else { 9 };
         opening.expect("length", &bytes, number);
         bytes.fill(UNKNOWN);
         opening.expect("length of rubbish", &bytes, if length > MAX_BYTES { 1 } else { 7 });
@@ -440,9 +522,13 @@ fn ends(opening: &mut Opening, form: Form) {
     for length in [MAX_BYTES + 1, 1 << 16, 1 << 20] {
         opening.expect("too long", &vec![UNKNOWN; length], 1);
     }
-    let five = Builder::default().rows(1).row_as_sent(form, &[0; MAIN_WIDTH]).sampled(&[0; 177]).digest(&[0; 5]).end().clone();
-    for order in 0..5usize.pow(5) {
-        let commands = [1, 5, 25, 125, 625].map(|power| five.commands[order / power % 5].as_slice());
+    let mut some = Builder::default().rows(1).row_as_sent(made.form, &[0; MAIN_WIDTH]).sampled(&[0; 177]).digest(&[0; 5]).end().clone();
+    if made.high {
+        some.height(1);
+    }
+    let n = some.commands.len();
+    for order in 0..n.pow(5) {
+        let commands: [&[u8]; 5] = std::array::from_fn(|place| some.commands[order / n.pow(place as u32) % n].as_slice());
         opening.check("order", &commands.concat());
     }
 }
@@ -451,8 +537,15 @@ fn ends(opening: &mut Opening, form: Form) {
 fn damage_commands(random: &mut Random, commands: &mut Vec<Vec<u8>>) {
     let (at, other) = (below(random, commands.len()), below(random, commands.len()));
     let command = commands[at].clone();
-    match random.word() % 13 {
+    match random.word() % 14 {
         0 => commands.swap(at, other),
+        12 => {
+            let height = vec![11, [0, 1, 5, 22, 23, random.word() as u8][below(random, 6)]];
+            match commands.iter().position(|command| command[0] == 11) {
+                Some(at) => commands[at] = height,
+                None => commands.insert([1, other][below(random, 2)], height),
+            }
+        }
         11 => {
             let rows: Vec<usize> = (0..commands.len()).filter(|&at| is_row(&commands[at])).collect();
             commands[rows[below(random, rows.len())]][0] ^= 2 ^ 10;
@@ -485,7 +578,7 @@ fn damage_commands(random: &mut Random, commands: &mut Vec<Vec<u8>>) {
 }
 
 /// Bytes changed, lost, added, cut off, or too many.
-fn damage_bytes(random: &mut Random, bytes: &mut Vec<u8>) {
+pub fn damage_bytes(random: &mut Random, bytes: &mut Vec<u8>) {
     let near = [8, 64, bytes.len()][below(random, 3)].min(bytes.len());
     let place = if random.word() % 2 == 0 { below(random, near) } else { bytes.len() - 1 - below(random, near) };
     let n = 1 + below(random, 9);
@@ -527,7 +620,7 @@ fn babble(random: &mut Random) -> Vec<u8> {
     }
     for _ in 0..random.word() % 8 {
         let command = random.word() as u8 % [UNKNOWN + 1, UNKNOWN + 1, UNKNOWN + 1, 255][below(random, 4)];
-        let widths = [0, 0, MAIN_WIDTH, 1, 1, 1, 177, 5, 1, 1, MAIN_WIDTH];
+        let widths = [0, 0, MAIN_WIDTH, 1, 1, 1, 177, 5, 1, 1, MAIN_WIDTH, 0];
         let mut operand = words(random, widths.get(command as usize).copied().unwrap_or(0));
         if !operand.is_empty() && random.word() % 16 == 0 {
             let place = below(random, operand.len());
@@ -535,6 +628,7 @@ fn babble(random: &mut Random) -> Vec<u8> {
         }
         match command {
             1 => batch.rows(random.word() as u32 % 35),
+            11 => batch.height(random.word() as u8 % 25),
             _ => batch.command(command, &operand),
         };
     }
@@ -548,13 +642,13 @@ fn babble(random: &mut Random) -> Vec<u8> {
     bytes
 }
 
-/// Whole batches; then batches of each form with a fault in every place, and `count` damaged at random.
+/// Whole batches; then batches made in each way with a fault in every place, and `count` damaged at random.
 pub fn compare(random: &mut Random, count: u64) -> bool {
     let mut opening = Opening::new(random);
     sound(&mut opening, count / 40);
-    for form in FORMS {
-        for faults in [lengths, every_byte, bad_words, edge_words, mixtures, rows, past_counts, orders, ends] {
-            faults(&mut opening, form);
+    for made in MADE {
+        for faults in [lengths, every_byte, bad_words, edge_words, mixtures, rows, past_counts, orders, heights, ends] {
+            faults(&mut opening, made);
         }
     }
     for _ in 0..count / 12 {
@@ -568,7 +662,7 @@ pub fn compare(random: &mut Random, count: u64) -> bool {
             opening.check("babble", &bytes);
         }
     }
-    let numbers: [&[usize]; 4] = [&[1, 2, 3, 7, 8, 9, 10], &[0, 2, 7, 8, 9, 10], &[0, 2, 7, 8, 9, 10], &[9]];
+    let numbers: [&[usize]; 4] = [&[1, 2, 3, 7, 8, 9, 10, 12], &[0, 2, 7, 8, 9, 10], &[0, 2, 7, 8, 9, 10], &[9]];
     for (tally, numbers) in opening.tallies.iter_mut().zip(numbers) {
         tally.reached(numbers);
     }

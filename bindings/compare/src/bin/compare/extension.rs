@@ -46,7 +46,7 @@ fn word(random: &mut Random, flavour: u64) -> u64 {
 }
 
 /// All opcodes, as they are and out of range; arguments in and out of range; padding marked with 1 and with other words.
-fn row(random: &mut Random, flavour: u64, index: usize) -> Vec<u64> {
+pub fn row(random: &mut Random, flavour: u64, index: usize) -> Vec<u64> {
     let mut row: Vec<u64> = (0..WIDTH).map(|_| word(random, flavour)).collect();
     let code = opcode::ALL[random.word() as usize % opcode::ALL.len()];
     row[CI] = match random.word() % 24 {
@@ -113,7 +113,7 @@ fn table(random: &mut Random, rows: usize) -> Vec<u64> {
 }
 
 /// Mostly words below p; sometimes small elements, so that entries coincide and denominators vanish.
-fn challenges(random: &mut Random) -> Vec<u64> {
+pub fn challenges(random: &mut Random) -> Vec<u64> {
     let flavour = random.word() % 8;
     (0..RECORD).map(|k| if flavour < 2 && k % 3 > 0 { 0 } else { word(random, if flavour < 3 { flavour } else { 0 }) }).collect()
 }

@@ -10,6 +10,7 @@ mod extension;
 mod montgomery;
 mod scans;
 mod tables;
+mod terminals;
 mod writing;
 
 use compare::random::Random;
@@ -30,6 +31,7 @@ fn main() {
         extension::compare(&mut random, count / 3),
         batches::compare(&mut random, count * 4),
         writing::compare(&mut random, count / 3),
+        terminals::compare(&mut random, 4 + count / 10_000),
     ];
     std::process::exit(if right.iter().all(|&r| r) { 0 } else { 1 });
 }

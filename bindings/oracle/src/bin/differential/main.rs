@@ -9,6 +9,7 @@ mod extension;
 mod montgomery;
 mod scans;
 mod tables;
+mod terminals;
 mod values;
 
 use compare::random::Random;
@@ -33,6 +34,7 @@ fn main() {
         extension::compare(&mut random, count, &mut rows),
         constraints::compare(&mut random),
         montgomery::compare(&mut random, count),
+        terminals::compare(&mut random, count / 1_000, &mut rows),
     ];
     println!("{rows} rows of tables compared in all");
     std::process::exit(if right.iter().all(|&r| r) { 0 } else { 1 });

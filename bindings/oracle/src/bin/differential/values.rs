@@ -35,6 +35,13 @@ pub fn compare() -> bool {
     let terminals = [1, 1, HALF, 1, 1, 0, 1, 1, 1, 0, 1].map(|c| [c, 0, 0]).concat();
     expect("terminals", &aux[33..], &terminals);
 
+    // at a height of its own the example's clock column, the last, counts the padding rows: what tests/terminals has at k 18
+    let (sampled, digest) = ([2, 0, 0].repeat(59), [0; 5]);
+    for k in [1, 2, 10, 18] {
+        let cells = oracle::terminals([&[0; 39], &[], &[], &[], &sampled, &digest, &[], &[]], 1 << k).expect("no refusal");
+        expect("terminals at a height", &cells, &[&terminals[..30], &[(1 << k) - 1, 0, 0]].concat());
+    }
+
     expect("input", &cells(&window(73, 2, [0, 0], [5, 7]), 10)[..3], &[175, 0, 0]);
     expect("output", &cells(&window(19, 2, [5, 7], [0, 0]), 10)[3..6], &[157, 0, 0]);
     for nia in [0, 6] {

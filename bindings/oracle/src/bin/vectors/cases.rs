@@ -52,6 +52,26 @@ const LOW_BITS: [u64; 7] = [READ_IO, WRITE_IO, READ_MEM, HASH, SPONGE_ABSORB, SP
 const HEIGHTS: [(usize, u64); 8] =
     [(2, READ_IO), (3, WRITE_IO), (5, READ_IO), (6, MERKLE_STEP_MEM), (7, SPONGE_ABSORB_MEM), (9, DIV_MOD), (17, WRITE_IO), (31, PUSH)];
 
+/// Trace rows, the last one's instruction, and the k of 0B.
+const SET_HEIGHTS: [(usize, u64, u32); 16] = [
+    (1, HALT, 1),
+    (1, MERKLE_STEP, 2),
+    (1, READ_IO, 12),
+    (2, HALT, 1),
+    (2, SPLIT, 2),
+    (3, XOR, 2),
+    (3, DIV_MOD, 3),
+    (4, HALT, 5),
+    (5, SPONGE_SQUEEZE, 6),
+    (8, HASH, 7),
+    (16, WRITE_IO, 8),
+    (30, SPONGE_ABSORB_MEM, 5),
+    (31, POW, 5),
+    (31, MERKLE_STEP_MEM, 9),
+    (32, READ_MEM, 5),
+    (32, LOG_2_FLOOR, 10),
+];
+
 /// Trace rows, the differences of op stack, RAM and jump stack, and the answer.
 const LISTS: [(usize, [&[u64]; 3], u8); 14] = [
     (1, [&[0], &[], &[]], 0),
@@ -86,6 +106,7 @@ pub fn all(random: &mut Random) -> Vec<Case> {
     cases.extend(LISTS.map(|(rows, lists, number)| counts(random, rows, lists, number)));
     cases.extend(ROOTS.iter().map(|root| root.case(random)));
     cases.push(longest(random));
+    cases.extend(SET_HEIGHTS.map(|(rows, last, k)| set_height(random, rows, last, k)));
     cases
 }
 
@@ -142,6 +163,12 @@ fn height(random: &mut Random, rows: usize, last: u64) -> Case {
     let mut trace = any_rows(random, rows - 1);
     trace.push(row(random, last, Some(5)));
     Case::new(random, "heights", trace)
+}
+
+/// The same at 2^k rows, with every row counted.
+fn set_height(random: &mut Random, rows: usize, last: u64, k: u32) -> Case {
+    let trace = height(random, rows, last).trace;
+    Case { log2_height: k, ..Case::counted(random, "heights that 0B sets", trace) }
 }
 
 fn counts(random: &mut Random, rows: usize, lists: [&[u64]; 3], number: u8) -> Case {

@@ -20,6 +20,8 @@ pub struct Case {
     pub digest: [u64; 5],
     pub input: Vec<u64>,
     pub output: Vec<u64>,
+    /// Of the height that 0B sets, 0 without it.
+    pub log2_height: u32,
     pub number: u8,
 }
 
@@ -27,7 +29,8 @@ impl Case {
     /// Without differences, input and output, and with no refusal.
     pub fn new(random: &mut Random, name: &'static str, trace: Vec<Row>) -> Case {
         let (sampled, digest) = (words(random), words(random));
-        Case { name, trace, differences: Default::default(), sampled, digest, input: vec![], output: vec![], number: 0 }
+        let [input, output] = Default::default();
+        Case { name, trace, differences: Default::default(), sampled, digest, input, output, log2_height: 0, number: 0 }
     }
 
     /// Each row once in the op stack's list, each second in RAM's, each third in the jump stack's.
@@ -39,7 +42,10 @@ impl Case {
 
     /// The rows of the main table.
     pub fn height(&self) -> usize {
-        self.trace.len().next_power_of_two().max(2)
+        match self.log2_height {
+            0 => self.trace.len().next_power_of_two().max(2),
+            k => 1 << k,
+        }
     }
 }
 

@@ -25,6 +25,7 @@ count-spec =
     (λ c. search needs)
     (λ c. search needs)
     (λ c. search needs)
+    (λ c. search needs)
     (λ c. arm (counted (c .before .args .t1)) (c .match .keys1))
     (λ c. arm (counted (c .before .args .t1)) (c .match .keys2))
     (λ c. arm (counted (c .before .args .t1)) (c .match .keys3))
@@ -35,4 +36,5 @@ count-spec =
     (λ c. arm (counted (c .before .args .t1)) (c .match .keys8))
     (λ c. arm (counted (c .before .args .t1)) (c .match .keys9))
     (λ c. arm (counted (c .before .args .t1)) (c .match .keys10))
+    (λ c. arm (counted (c .before .args .t1)) (c .match .keys11))
     (λ c. arm (counted (c .before .args .t1)) (last _ (c .before .pre) (c .match .rest))))

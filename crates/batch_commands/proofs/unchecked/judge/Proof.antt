@@ -22,9 +22,9 @@ places c =
     let e : length (drop (args .at) (args .batch .now)) - width (args .code) ≡ length (args .batch .now) - (args .at + c .before .before .width .result) = omega (arith, c .before .before .width .ensures, length-drop (args .at) (args .batch .now)) in
     rw e (sym (c .out-of-place .ensures))
 
-below : (c : tie.After-words-below) → let wide = c .before .before .before .before .before .before .before .before in let args = start wide .args in
+below : (c : tie.After-words-below) → let wide = c .before .before .before .before .before .before .before .before .before .before in let args = start wide .args in
     allBelow (words (width (args .code) / 8) (drop (args .at) (args .batch .now))) ≡ c .words-below .result
-below c = sym (rw (c .before .before .before .before .before .before .before .before .width .ensures) at (c .words-below .ensures))
+below c = sym (rw (c .before .before .before .before .before .before .before .before .before .before .width .ensures) at (c .words-below .ensures))
 
 width-requires : tie.Need-width-requires
 width-requires c κs = search needs
@@ -59,8 +59,8 @@ returns-3 c =
     let first = second .before .before in
     rw (places (first .before) ∙ first .if1 .left, sym (second .before .out-of-order .ensures) ∙ second .if2 .left, sym (c .before .wrong-row-count .ensures) ∙ c .if3 .taken)
 
-words-below-requires : tie.Need-words-below-requires
-words-below-requires c κs = search needs
+height-out-of-range-requires : tie.Need-height-out-of-range-requires
+height-out-of-range-requires c κs = search needs
 
 returns-4 : tie.Need-returns-4
 unfolding judged
@@ -68,15 +68,28 @@ returns-4 c =
     let third = c .before .before in
     let second = third .before .before in
     let first = second .before .before in
-    rw (places (first .before) ∙ first .if1 .left, sym (second .before .out-of-order .ensures) ∙ second .if2 .left, sym (third .before .wrong-row-count .ensures) ∙ third .if3 .left, below (c .before) ∙ not-true (c .before .words-below .result) (c .if4 .taken))
+    rw (places (first .before) ∙ first .if1 .left, sym (second .before .out-of-order .ensures) ∙ second .if2 .left, sym (third .before .wrong-row-count .ensures) ∙ third .if3 .left, sym (c .before .height-out-of-range .ensures) ∙ c .if4 .taken)
+
+words-below-requires : tie.Need-words-below-requires
+words-below-requires c κs = search needs
 
 returns-5 : tie.Need-returns-5
 unfolding judged
 returns-5 c =
-    let third = c .before .before in
+    let fourth = c .before .before in
+    let third = fourth .before .before in
     let second = third .before .before in
     let first = second .before .before in
-    rw (places (first .before) ∙ first .if1 .left, sym (second .before .out-of-order .ensures) ∙ second .if2 .left, sym (third .before .wrong-row-count .ensures) ∙ third .if3 .left, below (c .before) ∙ not-false (c .before .words-below .result) (c .if4 .left))
+    rw (places (first .before) ∙ first .if1 .left, sym (second .before .out-of-order .ensures) ∙ second .if2 .left, sym (third .before .wrong-row-count .ensures) ∙ third .if3 .left, sym (fourth .before .height-out-of-range .ensures) ∙ fourth .if4 .left, below (c .before) ∙ not-true (c .before .words-below .result) (c .if5 .taken))
+
+returns-6 : tie.Need-returns-6
+unfolding judged
+returns-6 c =
+    let fourth = c .before .before in
+    let third = fourth .before .before in
+    let second = third .before .before in
+    let first = second .before .before in
+    rw (places (first .before) ∙ first .if1 .left, sym (second .before .out-of-order .ensures) ∙ second .if2 .left, sym (third .before .wrong-row-count .ensures) ∙ third .if3 .left, sym (fourth .before .height-out-of-range .ensures) ∙ fourth .if4 .left, below (c .before) ∙ not-false (c .before .words-below .result) (c .if5 .left))
 
 pub judge-spec : {M : Type 1} → statement M
 judge-spec =
@@ -91,6 +104,8 @@ judge-spec =
     returns-2
     wrong-row-count-requires
     returns-3
-    words-below-requires
+    height-out-of-range-requires
     returns-4
-    returns-5)
+    words-below-requires
+    returns-5
+    returns-6)

@@ -18,4 +18,5 @@ limit-spec =
     (λ c. arm (limit (c .before .args .rows)) (c .match .keys8))
     (λ c. arm (limit (c .before .args .rows)) (c .match .keys9))
     (λ c. arm (limit (c .before .args .rows)) (c .match .keys10))
+    (λ c. arm (limit (c .before .args .rows)) (c .match .keys11))
     (λ c. arm (limit (c .before .args .rows)) (last _ (c .before .pre) (c .match .rest))))

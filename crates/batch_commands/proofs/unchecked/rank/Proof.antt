@@ -18,4 +18,5 @@ rank-spec =
     (λ c. arm rank (c .match .keys8))
     (λ c. arm rank (c .match .keys9))
     (λ c. arm rank (c .match .keys10))
+    (λ c. arm rank (c .match .keys11))
     (λ c. arm rank (last _ (c .before .pre) (c .match .rest))))

@@ -18,4 +18,5 @@ width-spec =
     (λ c. arm width (c .match .keys8))
     (λ c. arm width (c .match .keys9))
     (λ c. arm width (c .match .keys10))
+    (λ c. arm width (c .match .keys11))
     (λ c. arm width (last _ (c .before .pre) (c .match .rest))))

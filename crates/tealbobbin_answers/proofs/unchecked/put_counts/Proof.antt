@@ -1,4 +1,4 @@
--- Six words written are the whole slice.
+-- Seven words written are the whole slice.
 use native.Mathlib.Omega.{arith}
 use lib.ListN.{length-set}
 use Rattle.tealbobbin_answers.proofs.Whole.{whole}
@@ -33,6 +33,9 @@ slice-write-counts-5 c = simp length-set (omega (arith, c .before .before .befor
 slice-write-counts-6 : tie.Need-slice-write-counts-6
 slice-write-counts-6 c = simp length-set (omega (arith, c .before .before .before .before .pre))
 
+slice-write-counts-7 : tie.Need-slice-write-counts-7
+slice-write-counts-7 c = simp length-set (omega (arith, c .before .before .before .before .pre))
+
 returns : tie.Need-returns
 returns c = search needs
 
@@ -55,6 +58,7 @@ put-counts-spec =
     slice-write-counts-4
     slice-write-counts-5
     slice-write-counts-6
+    slice-write-counts-7
     returns
     same-length
     returns-2)

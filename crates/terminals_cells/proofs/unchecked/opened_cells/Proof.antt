@@ -2,6 +2,7 @@
 use mathlib.Core.Path.{_≡_, refl, sym, ap, _∙_}
 use mathlib.Core.List.{List}
 use Prim.Native.Nat.{ℕ, _*_}
+use native.Mathlib.Omega.{arith}
 use lib.ListN.{take}
 use lib.Seq.{length-take-le}
 use Rattle.refusal.specs.Number.{onDone}
@@ -24,15 +25,15 @@ module _ (counts : Counts) (trace op-stack ram jump-stack sampled digest input o
   unfolding openedAnswer
   refuses refusal e = rw e
 
-  goes-on : challenges ≡ Done → openedAnswer counts trace op-stack ram jump-stack sampled digest input output ≡ tableAnswer (take (counts .rows * 39) trace) (take (counts .«op_stack») op-stack) (take (counts .ram) ram) (take (counts .«jump_stack») jump-stack) (challengesRecord sampled digest (take (counts .input) input) (take (counts .output) output) (zeros 189))
+  goes-on : challenges ≡ Done → openedAnswer counts trace op-stack ram jump-stack sampled digest input output ≡ tableAnswer (counts .«log2_height») (take (counts .rows * 39) trace) (take (counts .«op_stack») op-stack) (take (counts .ram) ram) (take (counts .«jump_stack») jump-stack) (challengesRecord sampled digest (take (counts .input) input) (take (counts .output) output) (zeros 189))
   unfolding openedAnswer
   goes-on e = rw e
 
 slice-aggregate-new : tie.Need-slice-aggregate-new
-slice-aggregate-new c = sym (length-take-le _ _ (c .before .before .before .before .before .before .before .before .before .pre .in-input))
+slice-aggregate-new c = sym (length-take-le _ _ (c .before .before .before .before .before .before .before .before .before .pre .0 .in-input))
 
 slice-aggregate-new-2 : tie.Need-slice-aggregate-new-2
-slice-aggregate-new-2 c = sym (length-take-le _ _ (c .before .before .before .before .before .before .before .before .before .before .pre .in-output))
+slice-aggregate-new-2 c = sym (length-take-le _ _ (c .before .before .before .before .before .before .before .before .before .before .pre .0 .in-output))
 
 slice-aggregate-new-3 : tie.Need-slice-aggregate-new-3
 slice-aggregate-new-3 c = search needs
@@ -50,22 +51,26 @@ mul-trace-end : tie.Need-mul-trace-end
 mul-trace-end c = search needs
 
 slice-aggregate-table-cells : tie.Need-slice-aggregate-table-cells
-slice-aggregate-table-cells c = sym (length-take-le _ _ (c .before .before .before .before .before .before .before .before .before .before .before .before .before .before .before .before .before .pre .in-trace))
+slice-aggregate-table-cells c = sym (length-take-le _ _ (c .before .before .before .before .before .before .before .before .before .before .before .before .before .before .before .before .before .pre .0 .in-trace))
 
 slice-aggregate-table-cells-2 : tie.Need-slice-aggregate-table-cells-2
-slice-aggregate-table-cells-2 c = sym (length-take-le _ _ (c .before .before .before .before .before .before .before .before .before .before .before .before .before .before .before .before .before .before .pre .in-op-stack))
+slice-aggregate-table-cells-2 c = sym (length-take-le _ _ (c .before .before .before .before .before .before .before .before .before .before .before .before .before .before .before .before .before .before .pre .0 .in-op-stack))
 
 slice-aggregate-table-cells-3 : tie.Need-slice-aggregate-table-cells-3
-slice-aggregate-table-cells-3 c = sym (length-take-le _ _ (c .before .before .before .before .before .before .before .before .before .before .before .before .before .before .before .before .before .before .before .pre .in-ram))
+slice-aggregate-table-cells-3 c = sym (length-take-le _ _ (c .before .before .before .before .before .before .before .before .before .before .before .before .before .before .before .before .before .before .before .pre .0 .in-ram))
 
 slice-aggregate-table-cells-4 : tie.Need-slice-aggregate-table-cells-4
-slice-aggregate-table-cells-4 c = sym (length-take-le _ _ (c .before .before .before .before .before .before .before .before .before .before .before .before .before .before .before .before .before .before .before .before .pre .in-jump-stack))
+slice-aggregate-table-cells-4 c = sym (length-take-le _ _ (c .before .before .before .before .before .before .before .before .before .before .before .before .before .before .before .before .before .before .before .before .pre .0 .in-jump-stack))
 
 slice-aggregate-table-cells-5 : tie.Need-slice-aggregate-table-cells-5
 slice-aggregate-table-cells-5 c = search needs
 
 table-cells-requires : tie.Need-table-cells-requires
-table-cells-requires c κs = search needs
+table-cells-requires c κs =
+    let start = c .before .before .before .before .before .before .before .before .before .before .before .before .before .before .before .before .before .before .before .before .before .before in
+    let within = start .pre .0 in
+    let few = length-take-le (start .args .counts .rows * 39) (start .args .trace .now) (within .in-trace) in
+    (within .height, omega (arith, few, within .in-trace, start .pre .1))
 
 returns : tie.Need-returns
 unfolding zeros
@@ -86,8 +91,8 @@ returns-2 c =
     let ram = take (counts .ram) (args .ram .now) in
     let jump-stack = take (counts .«jump_stack») (args .jump-stack .now) in
     let derived = at-new .new .ensures .1 in (
-      c .table-cells .ensures .0 ∙ ap (tableAnswer trace op-stack ram jump-stack) derived ∙ sym (goes-on (args .counts) (args .trace .now) (args .op-stack .now) (args .ram .now) (args .jump-stack .now) (args .sampled .now) (args .digest .now) (args .input .now) (args .output .now) (sym (at-new .new .ensures .0) ∙ told .enum-told .given .1)),
-      c .table-cells .ensures .1 ∙ ap (λ l. onDone (c .table-cells .result) (tableCells trace op-stack ram jump-stack l) (args .cells .now)) derived,
+      c .table-cells .ensures .0 ∙ ap (tableAnswer (counts .«log2_height») trace op-stack ram jump-stack) derived ∙ sym (goes-on (args .counts) (args .trace .now) (args .op-stack .now) (args .ram .now) (args .jump-stack .now) (args .sampled .now) (args .digest .now) (args .input .now) (args .output .now) (sym (at-new .new .ensures .0) ∙ told .enum-told .given .1)),
+      c .table-cells .ensures .1 ∙ ap (λ l. onDone (c .table-cells .result) (tableCells (counts .«log2_height») trace op-stack ram jump-stack l) (args .cells .now)) derived,
     )
 
 pub opened-cells-spec : {M : Type 1} → statement M

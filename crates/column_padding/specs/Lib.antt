@@ -1,0 +1,2 @@
+-- A map applied many times.
+pub mod Repeated

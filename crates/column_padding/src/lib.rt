@@ -1,0 +1,2 @@
+// What many padding rows make of a column's running value.
+pub mod unchecked;

@@ -1,0 +1,2 @@
+-- What a window of padding brings.
+pub mod Padding

@@ -1,0 +1,2 @@
+-- Extension's last row.
+pub mod Extended

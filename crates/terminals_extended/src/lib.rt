@@ -1,0 +1,2 @@
+// The last row of the extension of a table of a few rows.
+pub mod unchecked;

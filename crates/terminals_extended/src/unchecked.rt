@@ -1,0 +1,66 @@
+// The caller lends a table of a few rows.
+use air::MainIndex;
+use refusal::Answer;
+ghost use mathlib.Core.Path.{_≡_};
+ghost use Prim.Native.Nat.{_≤_};
+ghost use lib.ListN.{length};
+ghost use Rattle.refusal.specs.Number.{onDone};
+ghost use Rattle.table_rows.specs.Rows.{rows};
+ghost use Rattle.extend_answer.specs.Answer.{extendAnswer};
+ghost use Rattle.extend.specs.Extend.{extendAux};
+ghost use Rattle.terminals_extended.specs.Extended.{lastRow, extendedAnswer, extendedCells};
+
+const CHUNK: usize = 4;
+
+// A row of 33 words.
+pub fn copy_row(from: &[u64], cells: &mut [u64])
+    requires { ⌜ (length (now from) ≡ 33) × (length (now cells) ≡ 33) ⌝ }
+    ensures { λ r. ⌜ now (cells .exit) ≡ now (from .entry) ⌝ }
+{
+    let mut i: usize = 0;
+    while i < 33 {
+        cells[i] = from[i];
+        i += 1;
+    }
+}
+
+fn extended_into(
+    main: &[u64],
+    challenges: &[u64],
+    aux: &mut [u64],
+    work: &mut [u64],
+    cells: &mut [u64; 33],
+) -> Answer
+    requires { ⌜ 33 ≤ length (now aux) ⌝ }
+    ensures answer { λ r. ⌜ r ≡ extendAnswer (now (main .entry)) (now (challenges .entry)) 4 (now (aux .entry)) (now (work .entry)) ⌝ }
+    ensures cells { λ r. ⌜ now (cells .exit) ≡ onDone r (lastRow (extendAux (now (main .entry)) (now (challenges .entry)) 4 (now (aux .entry)) (now (work .entry)))) (now (cells .entry)) ⌝ }
+{
+    let answer = extend::extend(main, challenges, CHUNK, aux, work);
+    match answer {
+        Answer::Refused(refusal) => Answer::Refused(refusal),
+        Answer::Done => {
+            let last = aux.len() - 33;
+            copy_row(&aux[last..], cells);
+            Answer::Done
+        }
+    }
+}
+
+pub fn extended_cells(main: &[u64], challenges: &[u64], cells: &mut [u64; 33]) -> Answer
+    requires { ⌜ (1 ≤ rows (now main)) × (rows (now main) ≤ 34) ⌝ }
+    ensures answer { λ r. ⌜ r ≡ extendedAnswer (now (main .entry)) (now (challenges .entry)) ⌝ }
+    ensures cells { λ r. ⌜ now (cells .exit) ≡ onDone r (extendedCells (now (main .entry)) (now (challenges .entry))) (now (cells .entry)) ⌝ }
+{
+    let rows = main.len() / MainIndex::COUNT;
+    let mut aux = [0u64; 1122];
+    let mut work = [0u64; 204];
+    let aux_end = rows * 33;
+    let work_end = rows * 6;
+    extended_into(
+        main,
+        challenges,
+        &mut aux[..aux_end],
+        &mut work[..work_end],
+        cells,
+    )
+}

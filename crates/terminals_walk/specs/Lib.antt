@@ -1,0 +1,2 @@
+-- A table that goes on with padding.
+pub mod Grown
