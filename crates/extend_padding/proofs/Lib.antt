@@ -1,2 +1,3 @@
--- What a window of padding brings.
+-- What a window of padding brings, and a row behind itself.
 pub mod Padding
+pub mod OneRow

@@ -1,2 +1,3 @@
--- The auxiliary table.
+-- The auxiliary table, and rows of it that follow given ones.
 pub mod Extended
+pub mod Behind

@@ -13,7 +13,7 @@ use Rattle.field_base.proofs.Below.{below-take, below-drop}
 use Rattle.field.specs.Element.{Canonical, elementAt}
 use Rattle.table_rows.specs.Rows.{rows, rowsFrom}
 use Rattle.table_pad.specs.Pad.{paddingRow}
-use Rattle.column_entries.specs.Columns.{Column, input, output, instruction, opStack, ram, jumpStack, hashInput, hashDigest, sponge, u32, clock, running}
+use Rattle.column_entries.specs.Columns.{Column, running}
 use Rattle.column_entries.specs.AuxRow.{placeOf, auxRow}
 use Rattle.column_entries.proofs.AuxRow.{length-row, value-at}
 use Rattle.column_weights.specs.Ready.{ReadyTable}
@@ -24,6 +24,7 @@ use Rattle.extend_fractions.specs.Fractions.{fractionsOf, Divisible}
 use Rattle.extend_denominators.proofs.Zeros.{rowFractions, divisible}
 use Rattle.extend_denominators.proofs.Rows.{fractions-given}
 use Rattle.extend_cells.specs.Cells.{cellsOf, CanonicalCells}
+use Rattle.extend_cells.proofs.Canonical.{canonical-cells}
 use Rattle.extend_padding.proofs.Padding.{padding-fractions}
 use Rattle.extend_answer.proofs.Accepted.{passed, ready}
 use Rattle.batch.specs.Lent.{zeros}
@@ -68,17 +69,7 @@ module _ (main : List ℕ) (height : ℕ) (growing : Growing main height) (chall
       value-canonical e c = subst Canonical (sym (value e c)) (running-canonical c challenges main (rows main))
 
       pub words-canonical : {words : List ℕ} → words ≡ extendedCells main challenges → CanonicalCells (cellsOf (λ c. elementAt words (placeOf c * 3)))
-      words-canonical e input = value-canonical e input
-      words-canonical e output = value-canonical e output
-      words-canonical e instruction = value-canonical e instruction
-      words-canonical e opStack = value-canonical e opStack
-      words-canonical e ram = value-canonical e ram
-      words-canonical e jumpStack = value-canonical e jumpStack
-      words-canonical e hashInput = value-canonical e hashInput
-      words-canonical e hashDigest = value-canonical e hashDigest
-      words-canonical e sponge = value-canonical e sponge
-      words-canonical e u32 = value-canonical e u32
-      words-canonical e clock = value-canonical e clock
+      words-canonical {words} e = canonical-cells (λ c. elementAt words (placeOf c * 3)) (value-canonical e)
 
       -- a column's value, walked on
       end-of : {words : List ℕ} → words ≡ extendedCells main challenges → (c : Column)

@@ -1,0 +1,2 @@
+-- Laws of the running values together.
+pub mod Canonical
