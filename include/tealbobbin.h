@@ -25,9 +25,9 @@ extern "C" {
 
 /* The Rust crate's Cargo.toml has the same version. */
 #define TEALBOBBIN_VERSION_MAJOR 0
-#define TEALBOBBIN_VERSION_MINOR 5
+#define TEALBOBBIN_VERSION_MINOR 6
 #define TEALBOBBIN_VERSION_PATCH 0
-#define TEALBOBBIN_VERSION "0.5.0"
+#define TEALBOBBIN_VERSION "0.6.0"
 
 enum tealbobbin_refusal {
     TEALBOBBIN_DONE = 0,                  /* none */
@@ -63,11 +63,20 @@ enum tealbobbin_refusal {
 #define TEALBOBBIN_SAMPLED_WORDS 177
 #define TEALBOBBIN_DIGEST_WORDS 5
 
-/* A row: words of the main table; elements, then words, of the auxiliary table; words of work in extension. */
+/* A row: words of the main table; elements, then words, of the auxiliary table. */
 #define TEALBOBBIN_MAIN_WIDTH 39
 #define TEALBOBBIN_AUX_WIDTH 11
 #define TEALBOBBIN_AUX_WORDS 33
+
+/* Words of work in extension for each started chunk of rows. */
 #define TEALBOBBIN_WORK_WORDS 6
+
+/*
+ * The words of work for this many rows by chunks of this many: rows / chunk, rounded up, times TEALBOBBIN_WORK_WORDS; 0 where chunk
+ * is 0, which extension refuses. It evaluates its arguments more than once, and is a constant where they are.
+ */
+#define TEALBOBBIN_WORK_COUNT(rows, chunk) \
+    ((rows) == 0 || (chunk) == 0 ? 0 : TEALBOBBIN_WORK_WORDS * (((size_t)(rows) - 1) / ((chunk) == 0 ? 1 : (size_t)(chunk)) + 1))
 
 /* The most rows of a table, items of a scan, words of a list, of input and of output. "Long" means more. */
 #define TEALBOBBIN_MAX_LEN 4194304
@@ -314,12 +323,14 @@ uint32_t tealbobbin_pad(uint64_t *table, size_t table_count, size_t table_len);
 
 /*
  * Extends `main`, rows of 39 words, by chunks of `chunk` rows: writes the eleven columns into `aux`, row by row, 33 words a row.
- * `challenges` is a record of 189 words. `work` is room for 6 words a row, and ends as zeros. The result is the same at every
- * chunk length. A row that does not decode brings no entry where a column asks for its instruction.
+ * `challenges` is a record of 189 words. `work` is room for 6 words for each started chunk, TEALBOBBIN_WORK_COUNT words, and ends
+ * as zeros. The cells are the same at every chunk length. A row that does not decode brings no entry where a column asks for its
+ * instruction.
  *
- * 1: `main` is not whole rows, `aux` not 33 words or `work` not 6 for each, or `challenges` has another length.
+ * 1: `main` is not whole rows, `aux` not 33 words for each, or `challenges` has another length.
  * 3: `main` has no row or is long in rows.
  * 5: `chunk` is 0.
+ * 1: `work` is not 6 words for each started chunk.
  * 2: a word of `main` or `challenges` is not below p.
  * 6: an entry of the instruction, U32 or clock column has denominator zero.
  */
@@ -330,7 +341,7 @@ uint32_t tealbobbin_extend(const uint64_t *main, size_t main_count, const uint64
  * Extends `main` as tealbobbin_extend does, with the same slices, if each of its rows decodes: row 0, the last one and padding
  * rows too. There the two write the same.
  *
- * 1, 3, 5, 2: as tealbobbin_extend.
+ * 1, 3, 5, 1, 2: as tealbobbin_extend.
  * 11: a row of `main` does not decode. tealbobbin_decode says why.
  * 6: as tealbobbin_extend.
  */

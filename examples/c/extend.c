@@ -19,7 +19,7 @@ static uint64_t sampled[TEALBOBBIN_SAMPLED_WORDS];
 static uint64_t challenges[TEALBOBBIN_RECORD_WORDS];
 static uint64_t table[ROWS * TEALBOBBIN_MAIN_WIDTH];
 static uint64_t aux[ROWS * TEALBOBBIN_AUX_WORDS];
-static uint64_t work[ROWS * TEALBOBBIN_WORK_WORDS];
+static uint64_t work[TEALBOBBIN_WORK_COUNT(ROWS, CHUNK)];
 
 /* The claim has no input and no output, the trace no clock jump differences. */
 static uint32_t extend(void)

@@ -70,7 +70,7 @@ static uint32_t extend_batch(size_t batch_count)
     height = height_of_table();
     table = room(height * TEALBOBBIN_MAIN_WIDTH);
     aux = room(height * TEALBOBBIN_AUX_WORDS);
-    work = room(height * TEALBOBBIN_WORK_WORDS);
+    work = room(TEALBOBBIN_WORK_COUNT(height, CHUNK));
     refusal = tealbobbin_challenges(sampled, COUNT(sampled), digest, COUNT(digest), input, counts[TEALBOBBIN_COUNT_INPUT],
                                     output, counts[TEALBOBBIN_COUNT_OUTPUT], challenges, COUNT(challenges));
     if (refusal)
@@ -84,7 +84,7 @@ static uint32_t extend_batch(size_t batch_count)
     if (refusal)
         return refusal;
     return tealbobbin_extend(table, height * TEALBOBBIN_MAIN_WIDTH, challenges, COUNT(challenges), CHUNK,
-                             aux, height * TEALBOBBIN_AUX_WORDS, work, height * TEALBOBBIN_WORK_WORDS);
+                             aux, height * TEALBOBBIN_AUX_WORDS, work, TEALBOBBIN_WORK_COUNT(height, CHUNK));
 }
 
 int main(int argc, char **argv)

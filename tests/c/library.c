@@ -532,9 +532,9 @@ static void pad(void)
     }
 }
 
-/* Extension of a table of two rows, under challenges that are all one word. */
+/* Extension of a table of two rows, under challenges that are all one word, with work for one chunk or for two. */
 
-enum { RECORD = TEALBOBBIN_RECORD_WORDS, MAIN = 2 * ROW, AUX = 2 * TEALBOBBIN_AUX_WORDS, WORK = 2 * TEALBOBBIN_WORK_WORDS };
+enum { RECORD = TEALBOBBIN_RECORD_WORDS, MAIN = 2 * ROW, AUX = 2 * TEALBOBBIN_AUX_WORDS, WORK = TEALBOBBIN_WORK_WORDS };
 
 static uint64_t *lend_record(uint64_t word)
 {
@@ -549,20 +549,21 @@ typedef uint32_t extension(const uint64_t *, size_t, const uint64_t *, size_t, s
 /* Of tables whose rows decode. */
 static void of_a_table(extension *call)
 {
-    uint64_t *table = lend_zeros(MAIN + 1), *record = lend_record(2), *aux = lend(AUX + 1), *work = lend(WORK + 1);
+    uint64_t *table = lend_zeros(MAIN + 1), *record = lend_record(2), *aux = lend(AUX + 1), *work = lend(2 * WORK + 1);
 
     /* a row of zeros, and the padding row that follows it */
-    static const uint64_t cells[] = {1, 1, HALF, 1, 1, 2, 1, 1, 1, 0, 0, 1, 1, HALF, 1, 1, 0, 1, 1, 1, 0, 1}, zeros[WORK];
+    static const uint64_t cells[] = {1, 1, HALF, 1, 1, 2, 1, 1, 1, 0, 0, 1, 1, HALF, 1, 1, 0, 1, 1, 1, 0, 1}, zeros[2 * WORK];
     uint64_t due[AUX];
     for (size_t i = 0; i < AUX; i++)
         due[i] = i % ELEMENT ? 0 : cells[i / ELEMENT];
     table[ROW + CLK] = table[ROW + TEALBOBBIN_MAIN_IS_PADDING] = table[ROW + MULTIPLICITY] = 1;
     for (size_t c = 0; c < COUNT(chunks); c++) {
+        size_t work_count = chunks[c] == 1 ? 2 * WORK : WORK;
         make_stale(aux, AUX);
-        make_stale(work, WORK);
-        DONE(call(table, MAIN, record, RECORD, chunks[c], aux, AUX, work, WORK));
+        make_stale(work, 2 * WORK);
+        DONE(call(table, MAIN, record, RECORD, chunks[c], aux, AUX, work, work_count));
         HOLDS_WORDS(aux, due, AUX);
-        HOLDS_WORDS(work, zeros, WORK);
+        HOLDS_WORDS(work, zeros, work_count);
         KEPT(table);
         KEPT(record);
     }
@@ -594,15 +595,17 @@ static void of_a_table(extension *call)
     REFUSED(1, call(stale, MAIN, record, RECORD + 1, 0, aux, AUX, work, WORK));
     REFUSED(1, call(stale, MAIN, record, RECORD, 0, aux, AUX - 1, work, WORK));
     REFUSED(1, call(stale, MAIN, record, RECORD, 0, aux, AUX + 1, work, WORK));
-    REFUSED(1, call(stale, MAIN, record, RECORD, 0, aux, AUX, work, WORK - 1));
-    REFUSED(1, call(stale, MAIN, record, RECORD, 0, aux, AUX, work, WORK + 1));
     REFUSED(1, call(NULL, 0, record, RECORD - 1, 0, NULL, 0, NULL, 0));
 
     const size_t rows = MAX_LEN + 1;
-    uint64_t *long_main = lend_many(rows * ROW), *long_aux = lend_many(rows * AUX / 2), *long_work = lend_many(rows * WORK / 2);
-    REFUSED(3, call(NULL, 0, record, RECORD, 0, NULL, 0, NULL, 0));
-    REFUSED(3, call(long_main, rows * ROW, record, RECORD, 0, long_aux, rows * AUX / 2, long_work, rows * WORK / 2));
-    REFUSED(5, call(stale, MAIN, record, RECORD, 0, aux, AUX, work, WORK));
+    uint64_t *long_main = lend_many(rows * ROW), *long_aux = lend_many(rows * AUX / 2);
+    for (size_t wrong = 0; wrong <= 2 * WORK + 1; wrong++) {
+        REFUSED(3, call(NULL, 0, record, RECORD, 0, NULL, 0, work, wrong));
+        REFUSED(3, call(NULL, 0, record, RECORD, 4, NULL, 0, work, wrong));
+        REFUSED(3, call(long_main, rows * ROW, record, RECORD, 0, long_aux, rows * AUX / 2, work, wrong));
+        REFUSED(3, call(long_main, rows * ROW, record, RECORD, 4, long_aux, rows * AUX / 2, work, wrong));
+        REFUSED(5, call(stale, MAIN, record, RECORD, 0, aux, AUX, work, wrong));
+    }
 
     /* a denominator is zero where CI is 1, and where CLK is 2 with a multiplicity; split enters its words and 4 */
     table[CI] = 1;
@@ -622,6 +625,79 @@ static void of_a_table(extension *call)
     table[CI] = 4;
     table[ROW + ST0] = P - 3;
     REFUSED(6, call(table, MAIN, record, RECORD, 4, aux, AUX, work, WORK));
+    REFUSED(1, call(table, MAIN, record, RECORD, 4, aux, AUX, work, WORK - 1));
+    REFUSED(1, call(table, MAIN, record, RECORD, 4, aux, AUX, work, 2 * WORK));
+}
+
+/* Words below p that differ, far from each other and from small ones. */
+static void scatter(uint64_t *words, size_t count)
+{
+    for (size_t i = 0; i < count; i++)
+        words[i] = (i + 1) * UINT64_C(0x9e3779b97f4a7c15) % P;
+}
+
+/* Nine rows by chunks of each length, with the chunks that are started: work is six words for each, and no other length will do. */
+static void of_work(extension *call)
+{
+    enum { ROWS = 9, TALL_MAIN = ROWS * ROW, TALL_AUX = ROWS * TEALBOBBIN_AUX_WORDS, MOST = ROWS * TEALBOBBIN_WORK_WORDS };
+    static const struct {
+        size_t chunk, started;
+    } divisions[] = {{1, 9}, {2, 5}, {3, 3}, {4, 3}, {5, 2}, {7, 2}, {8, 2}, {9, 1}, {10, 1}, {1000, 1}, {SIZE_MAX, 1}};
+    static const uint64_t opcodes[ROWS] = {73, 33, 19, 4, 20, 57, 18, 1, 0}, zeros[MOST];
+    uint64_t *table = lend(TALL_MAIN), *record = lend(RECORD), *aux = lend(TALL_AUX + 1), *work = lend(MOST + 13);
+    uint64_t cells[TALL_AUX];
+    scatter(table, TALL_MAIN);
+    scatter(record, RECORD);
+    for (size_t r = 0; r < ROWS; r++) {
+        table[r * ROW + CI] = opcodes[r];
+        table[r * ROW + NIA] = 1 + r % 5;
+        table[r * ROW + TEALBOBBIN_MAIN_IS_PADDING] = r == ROWS - 1;
+    }
+    for (size_t d = 0; d < COUNT(divisions); d++) {
+        const size_t chunk = divisions[d].chunk, right = 6 * divisions[d].started;
+        TRUE(TEALBOBBIN_WORK_COUNT(ROWS, chunk) == right);
+        make_stale(aux, TALL_AUX);
+        make_stale(work, MOST);
+        /* before 2, and behind 5 and the other lengths */
+        for (size_t bad = 0; bad < 2; bad++) {
+            uint64_t word = table[d];
+            if (bad)
+                table[d] = P;
+            for (size_t wrong = 0; wrong <= MOST + 13; wrong++)
+                if (wrong != right)
+                    REFUSED(1, call(table, TALL_MAIN, record, RECORD, chunk, aux, TALL_AUX, work, wrong));
+            REFUSED(5, call(table, TALL_MAIN, record, RECORD, 0, aux, TALL_AUX, work, right));
+            REFUSED(5, call(table, TALL_MAIN, record, RECORD, 0, aux, TALL_AUX, work, right + 1));
+            REFUSED(1, call(table, TALL_MAIN, record, RECORD, 0, aux, TALL_AUX + 1, work, right));
+            REFUSED(1, call(table, TALL_MAIN, record, RECORD, chunk, aux, TALL_AUX - 1, work, right));
+            if (bad)
+                REFUSED(2, call(table, TALL_MAIN, record, RECORD, chunk, aux, TALL_AUX, work, right));
+            table[d] = word;
+        }
+        DONE(call(table, TALL_MAIN, record, RECORD, chunk, aux, TALL_AUX, work, right));
+        if (d == 0)
+            copy(cells, aux, TALL_AUX);
+        HOLDS_WORDS(aux, cells, TALL_AUX);
+        HOLDS_WORDS(work, zeros, right);
+        KEPT(table);
+        KEPT(record);
+    }
+
+    /* the longest table, of which nothing is read */
+    uint64_t *long_main = lend_many((size_t)MAX_LEN * ROW), *long_aux = lend_many((size_t)MAX_LEN * TEALBOBBIN_AUX_WORDS);
+    uint64_t *long_work = lend_many((size_t)MAX_LEN * 6 + 1);
+    static const struct {
+        size_t chunk, words;
+    } longest[] = {{1, 25165824},     {2, 12582912}, {3, 8388612},     {4096, 6144},
+                   {MAX_LEN - 1, 12}, {MAX_LEN, 6},  {MAX_LEN + 1, 6}, {SIZE_MAX, 6}};
+    for (size_t d = 0; d < COUNT(longest); d++) {
+        const size_t chunk = longest[d].chunk, words = longest[d].words;
+        const size_t wrong[] = {0, words - 6, words - 1, words + 1, longest[(d + 4) % COUNT(longest)].words};
+        TRUE(TEALBOBBIN_WORK_COUNT(MAX_LEN, chunk) == words);
+        for (size_t w = 0; w < COUNT(wrong); w++)
+            REFUSED(1, call(long_main, (size_t)MAX_LEN * ROW, record, RECORD, chunk, long_aux, (size_t)MAX_LEN * TEALBOBBIN_AUX_WORDS,
+                            long_work, wrong[w]));
+    }
 }
 
 /* Each row that does not decode, as the first of two and as the last, which may be padding. The other one halts. */
@@ -642,6 +718,8 @@ static void extend(void)
     enum { LOOKUP = TEALBOBBIN_AUX_INSTRUCTION_LOOKUP_CLIENT_LOG_DERIVATIVE, JUMPS = TEALBOBBIN_AUX_JUMP_STACK_TABLE_PERM_ARG };
     of_a_table(tealbobbin_extend);
     give_back();
+    of_work(tealbobbin_extend);
+    give_back();
     uint64_t *table = lend_zeros(MAIN), *record = lend_record(10), *aux = lend(AUX), *work = lend(WORK);
     for (size_t i = 0; i < 16; i++)
         table[ST0 + i] = table[ROW + ST0 + i] = 20 + i;
@@ -656,20 +734,23 @@ static void extend(void)
     }
 }
 
-/* 11 is answered after 1, 3, 5 and 2, and before 6: with push, 1, in a row, a denominator is zero. */
+/* 11 is answered after 1, 3, 5, 1 for work and 2, and before 6: with push, 1, in a row, a denominator is zero. */
 static void extend_strict(void)
 {
     of_a_table(tealbobbin_extend_strict);
     give_back();
-    uint64_t *table = lend_zeros(MAIN + 1), *record = lend_record(2), *aux = lend(AUX + 1), *work = lend(WORK + 1);
+    of_work(tealbobbin_extend_strict);
+    give_back();
+    uint64_t *table = lend_zeros(MAIN + 1), *record = lend_record(2), *aux = lend(AUX + 1), *work = lend(2 * WORK);
     for (size_t place = 0; place < PLACES; place++) {
+        const size_t chunk = chunks[place % COUNT(chunks)], work_count = TEALBOBBIN_WORK_COUNT(2, chunk);
         put_undecodable(table, place);
-        REFUSED(11, tealbobbin_extend_strict(table, MAIN, record, RECORD, chunks[place % COUNT(chunks)], aux, AUX, work, WORK));
+        REFUSED(11, tealbobbin_extend_strict(table, MAIN, record, RECORD, chunk, aux, AUX, work, work_count));
         table[(place + 1) % 2 * ROW + CI] = 1;
         REFUSED(1, tealbobbin_extend_strict(table, MAIN, record, RECORD, 0, aux, AUX + 1, work, WORK));
-        REFUSED(1, tealbobbin_extend_strict(table, MAIN, record, RECORD, 0, aux, AUX, work, WORK + 1));
-        REFUSED(5, tealbobbin_extend_strict(table, MAIN, record, RECORD, 0, aux, AUX, work, WORK));
-        REFUSED(11, tealbobbin_extend_strict(table, MAIN, record, RECORD, 1, aux, AUX, work, WORK));
+        REFUSED(5, tealbobbin_extend_strict(table, MAIN, record, RECORD, 0, aux, AUX, work, WORK + 1));
+        REFUSED(1, tealbobbin_extend_strict(table, MAIN, record, RECORD, chunk, aux, AUX, work, work_count - 1));
+        REFUSED(11, tealbobbin_extend_strict(table, MAIN, record, RECORD, chunk, aux, AUX, work, work_count));
     }
     for (size_t i = 0; i < MAIN + RECORD; i++) {
         put_undecodable(table, i % PLACES);
@@ -1651,6 +1732,10 @@ static void constants(void)
     TRUE(TEALBOBBIN_AUX_WORDS == TEALBOBBIN_AUX_WIDTH * ELEMENT);
     TRUE(TEALBOBBIN_BATCH_MAX_TRACE_WORDS == TEALBOBBIN_BATCH_MAX_ROWS * ROW);
     TRUE(MAX_LEN == 1 << TEALBOBBIN_BATCH_MAX_LOG2_HEIGHT);
+    TRUE(TEALBOBBIN_WORK_COUNT(9, 0) == 0);
+    TRUE(TEALBOBBIN_WORK_COUNT(0, 4) == 0);
+    TRUE(TEALBOBBIN_WORK_COUNT(4 + 5, 1 << 2) == 3 * TEALBOBBIN_WORK_WORDS);
+    TRUE(TEALBOBBIN_WORK_COUNT(SIZE_MAX, SIZE_MAX) == TEALBOBBIN_WORK_WORDS);
     TRUE(TEALBOBBIN_BATCH_BYTES(1, 0, 0) == 1777);
     TRUE(TEALBOBBIN_BATCH_BYTES(1, 0, 1) == 1779);
     TRUE(TEALBOBBIN_BATCH_BYTES(TEALBOBBIN_BATCH_MAX_ROWS, 3 * TEALBOBBIN_BATCH_MAX_DIFFERENCES + 64 + 64, 22) == 16090);

@@ -8,7 +8,7 @@
 //! use tealbobbin::batch::Batch;
 //! use tealbobbin::challenges::Challenges;
 //! use tealbobbin::field::Element;
-//! use tealbobbin::processor::{extend, fill, pad, AuxRow, MainRow, WORK_WIDTH};
+//! use tealbobbin::processor::{extend, fill, pad, work_len, AuxRow, MainRow};
 //!
 //! fn main() -> Result<(), Box<dyn std::error::Error>> {
 //! #   std::env::set_current_dir(concat!(env!("CARGO_MANIFEST_DIR"), "/../.."))?;
@@ -20,7 +20,7 @@
 //!     pad(&mut table, batch.trace().len())?;
 //!
 //!     let mut aux = vec![AuxRow::ZERO; table.len()];
-//!     let mut work = vec![0; WORK_WIDTH * table.len()];
+//!     let mut work = vec![0; work_len(table.len(), 4)];
 //!     extend(&table, &challenges, 4, &mut aux, &mut work)?;
 //!
 //!     let last = aux[aux.len() - 1];

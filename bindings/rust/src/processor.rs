@@ -8,7 +8,7 @@
 //! use tealbobbin::air::ProcessorMainColumn::{CI, CLK, NIA, ST0, ST1};
 //! use tealbobbin::challenges::{Challenges, Claim, SampledChallenges};
 //! use tealbobbin::field::Element;
-//! use tealbobbin::processor::{extend, fill, pad, AuxRow, ClkJumpDiffs, MainRow, WORK_WIDTH};
+//! use tealbobbin::processor::{extend, fill, pad, work_len, AuxRow, ClkJumpDiffs, MainRow};
 //!
 //! let mut trace = [MainRow::ZERO; 2];
 //! (trace[0][CI], trace[0][NIA]) = (73, 2);
@@ -24,7 +24,7 @@
 //! pad(&mut table, trace.len())?;
 //!
 //! let mut aux = [AuxRow::ZERO; 4];
-//! let mut work = [0; 4 * WORK_WIDTH];
+//! let mut work = [0; work_len(4, 4)];
 //! extend(&table, &challenges, 4, &mut aux, &mut work)?;
 //! assert_eq!(aux[1][InputTableEvalArg], Element::from(175)); // (1·10 + 7)·10 + 5
 //! assert_eq!(aux[3][InputTableEvalArg], challenges[StandardInputTerminal]);
@@ -46,7 +46,7 @@ pub const MAIN_WIDTH: usize = ProcessorMainColumn::COUNT;
 /// Elements of a row of the auxiliary table.
 pub const AUX_WIDTH: usize = ProcessorAuxColumn::COUNT;
 
-/// Words of work that extension needs for each row.
+/// Words of work that extension needs for each started chunk of rows; [`work_len`] has those of a table.
 pub const WORK_WIDTH: usize = 6;
 
 /// The most rows of a table; also the most items of a scan, and words of a list of differences, of input or of output.
@@ -127,14 +127,31 @@ pub fn pad(table: &mut [MainRow], table_len: usize) -> Result<(), Refusal> {
     answer(abi::pad(words_mut(table), table_len), ())
 }
 
-/// Writes the main table's eleven columns into `aux`, by chunks of any positive length: the result is the same at each. `work` ends
-/// as zeros. A row that does not decode brings no entry where a column asks for its instruction; [`extend_strict`] refuses it.
+/// The words of work that [`extend`] and [`extend_strict`] take for this many rows by chunks of this many: [`WORK_WIDTH`] for each
+/// started chunk. 0 where `chunk` is 0, which they refuse.
+///
+/// ```
+/// use tealbobbin::processor::work_len;
+///
+/// assert_eq!(work_len(9, 4), 18);
+/// assert_eq!(work_len(9, usize::MAX), 6);
+/// ```
+pub const fn work_len(rows: usize, chunk: usize) -> usize {
+    if chunk == 0 {
+        return 0;
+    }
+    rows.div_ceil(chunk).saturating_mul(WORK_WIDTH)
+}
+
+/// Writes the main table's eleven columns into `aux`, by chunks of any positive length: the cells are the same at each. `work` has
+/// [`work_len`] words, fewer for longer chunks, and ends as zeros. A row that does not decode brings no entry where a column asks for
+/// its instruction; [`extend_strict`] refuses it.
 ///
 /// # Errors
 ///
-/// [`Refusal::SliceLength`] unless `aux` has a row and `work` [`WORK_WIDTH`] words for each row of `main`, then
-/// [`Refusal::RowCount`] if rows are 0 or over [`MAX_ROWS`], then [`Refusal::ChunkLengthZero`], then [`Refusal::WordNotBelowP`] in
-/// `main`, then [`Refusal::ZeroDenominator`] if an entry of a lookup column has denominator zero.
+/// [`Refusal::SliceLength`] unless `aux` has a row for each row of `main`, then [`Refusal::RowCount`] if rows are 0 or over
+/// [`MAX_ROWS`], then [`Refusal::ChunkLengthZero`], then [`Refusal::SliceLength`] unless `work` has [`work_len`] words, then
+/// [`Refusal::WordNotBelowP`] in `main`, then [`Refusal::ZeroDenominator`] if an entry of a lookup column has denominator zero.
 pub fn extend(
     main: &[MainRow],
     challenges: &Challenges,
@@ -152,14 +169,14 @@ pub fn extend(
 /// # use tealbobbin::challenges::{Challenges, Claim, SampledChallenges};
 /// # use tealbobbin::field::Element;
 /// use tealbobbin::isa::{decode, Decoded};
-/// use tealbobbin::processor::{extend_strict, AuxRow, MainRow, WORK_WIDTH};
+/// use tealbobbin::processor::{extend_strict, work_len, AuxRow, MainRow};
 /// use tealbobbin::Refusal;
 ///
 /// # let sampled = SampledChallenges([Element::from(2); Challenges::SAMPLE_COUNT]);
 /// # let challenges = Challenges::new(&sampled, Claim { program_digest: [0; 5], input: &[], output: &[] })?;
 /// let mut table = [MainRow::ZERO; 2];
 /// (table[1][CI], table[1][NIA]) = (33, 16);
-/// let (mut aux, mut work) = ([AuxRow::ZERO; 2], [0; 2 * WORK_WIDTH]);
+/// let (mut aux, mut work) = ([AuxRow::ZERO; 2], [0; work_len(2, 4)]);
 /// assert_eq!(extend_strict(&table, &challenges, 4, &mut aux, &mut work), Err(Refusal::UndecodableRow));
 ///
 /// let mut said = vec![];
@@ -219,11 +236,11 @@ mod tests {
     fn output_absorbed_upward() {
         let mut table = [MainRow::ZERO; 2];
         (table[0][CI], table[0][NIA], table[0][ST0], table[0][ST1]) = (19, 2, 5, 7);
-        let (mut aux, mut work) = ([AuxRow::default(); 2], [1; 2 * WORK_WIDTH]);
+        let (mut aux, mut work) = ([AuxRow::default(); 2], [1; work_len(2, 1)]);
         extend(&table, &challenges(), 1, &mut aux, &mut work).unwrap();
         assert_eq!(aux.map(|row| row[OutputTableEvalArg]), [1, 157].map(Element::from));
         assert_eq!(aux.map(|row| row[InputTableEvalArg]), [Element::ONE; 2]);
-        assert_eq!(work, [0; 2 * WORK_WIDTH]);
+        assert_eq!(work, [0; 12]);
     }
 
     type Extend = fn(&[MainRow], &Challenges, usize, &mut [AuxRow], &mut [u64]) -> Result<(), Refusal>;
@@ -234,13 +251,13 @@ mod tests {
         (table[0][CI], table[0][NIA], table[0][ST0]) = (19, 1, 5);
         pad(&mut table, 2).unwrap();
         let extended = |extend: Extend, table: &[MainRow]| {
-            let (mut aux, mut work) = ([AuxRow::ZERO; 3], [1; 3 * WORK_WIDTH]);
+            let (mut aux, mut work) = ([AuxRow::ZERO; 3], [1; work_len(3, 2)]);
             let answer = extend(table, &challenges(), 2, &mut aux, &mut work);
             (answer, aux, work)
         };
         assert_eq!(extended(extend_strict, &table), extended(extend, &table));
         assert_eq!(extended(extend_strict, &table).1[2][OutputTableEvalArg], Element::from(15));
-        let refused = |refusal| (Err(refusal), [AuxRow::ZERO; 3], [1; 3 * WORK_WIDTH]);
+        let refused = |refusal| (Err(refusal), [AuxRow::ZERO; 3], [1; 12]);
         for row in 0..3 {
             for (ci, nia) in [(7, 0), (33, 16), (73, 0)] {
                 let (mut table, other) = (table, (row + 1) % 3);
@@ -259,6 +276,37 @@ mod tests {
     }
 
     #[test]
+    fn work_by_the_chunk() {
+        assert_eq!([1, 2, 3, 4, 8, 9, 10, usize::MAX].map(|chunk| work_len(9, chunk)), [54, 30, 18, 18, 12, 6, 6, 6]);
+        assert_eq!([1, 3, 4096, MAX_ROWS, usize::MAX].map(|chunk| work_len(MAX_ROWS, chunk)), [25_165_824, 8_388_612, 6144, 6, 6]);
+        assert_eq!([(9, 0), (0, 0), (0, 4), (usize::MAX, 0)].map(|(rows, chunk)| work_len(rows, chunk)), [0; 4]);
+        assert_eq!([1, 2, usize::MAX].map(|chunk| work_len(usize::MAX, chunk)), [usize::MAX, usize::MAX, 6]);
+
+        let (table, mut one) = ([MainRow::ZERO; 9], [AuxRow::ZERO; 9]);
+        extend(&table, &challenges(), usize::MAX, &mut one, &mut [0; 6]).unwrap();
+        for extend in [extend, extend_strict] {
+            for chunk in (1..12).chain([usize::MAX]) {
+                let stale = ([AuxRow::ZERO; 9], [1; 60]);
+                let extended = |table: &[MainRow], words: usize| {
+                    let (mut aux, mut work) = stale;
+                    let answer = extend(table, &challenges(), chunk, &mut aux, &mut work[..words]);
+                    (answer, (aux, work))
+                };
+                let words = work_len(9, chunk);
+                let mut after = (one, [1; 60]);
+                after.1[..words].fill(0);
+                assert_eq!(extended(&table, words), (Ok(()), after));
+                let mut bad = table;
+                bad[8][HV0] = P;
+                assert_eq!(extended(&bad, words), (Err(Refusal::WordNotBelowP), stale));
+                for wrong in (0..=60).filter(|&wrong| wrong != words) {
+                    assert_eq!(extended(&bad, wrong), (Err(Refusal::SliceLength), stale));
+                }
+            }
+        }
+    }
+
+    #[test]
     fn refusals() {
         let (mut table, mut aux) = ([MainRow::ZERO; 2], [AuxRow::ZERO; 2]);
         let four = ClkJumpDiffs { op_stack: &[1], ..ClkJumpDiffs::default() };
@@ -272,7 +320,11 @@ mod tests {
         assert_eq!(extended(2, 1, 1, 12), Err(Refusal::SliceLength));
         assert_eq!(extended(2, 1, 2, 13), Err(Refusal::SliceLength));
         assert_eq!(extended(0, 0, 0, 0), Err(Refusal::RowCount));
-        assert_eq!(extended(2, 0, 2, 12), Err(Refusal::ChunkLengthZero));
+        assert_eq!(extended(0, 1, 0, 6), Err(Refusal::RowCount));
+        assert_eq!(extended(2, 0, 1, 12), Err(Refusal::SliceLength));
+        assert_eq!(extended(2, 0, 2, 13), Err(Refusal::ChunkLengthZero));
+        assert_eq!(extended(2, 2, 2, 12), Err(Refusal::SliceLength));
+        assert_eq!(extended(2, 2, 2, 6), Ok(()));
         assert_eq!(extended(2, 1, 2, 12), Ok(()));
         // 10 - (10·IP + 10·CI + 10·NIA)
         table[1][IP] = 1;

@@ -58,7 +58,8 @@ refusals! {
     /// 1: a slice has the wrong length.
     SliceLength = 1, "a slice has the wrong length (a batch has at most {MAX_BYTES} bytes, {MAX_DIFFERENCES} differences in a list and \
         {MAX_IO_WORDS} words of input and of output, and is written into exactly the bytes that it takes; another list, or a scan, has \
-        at most {MAX_ROWS} items; extension takes an auxiliary row and {WORK_WIDTH} words of work for each row of the main table)";
+        at most {MAX_ROWS} items; extension takes an auxiliary row for each row of the main table, and {WORK_WIDTH} words of work for \
+        each started chunk of them, as processor::work_len says)";
     /// 2: a word is not below p.
     WordNotBelowP = 2, "a word is not below p = {P} (reduce every word modulo p before handing it over)";
     /// 3: a number of rows is out of range.

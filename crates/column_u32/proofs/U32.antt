@@ -58,22 +58,41 @@ module _ (weights : List XFieldElement) (prev curr : List ℕ) (z : XFieldElemen
     merkle ea eb (inl e) k = rw (k, ea, eb, sym read ∙ e)
     merkle ea eb (inr e) k = rw (k, ea, eb, sym read ∙ e)
 
+  pub none : u32Entries weights prev curr ≡ [] → Answer noFraction
+  unfolding sumOfFractions
+  none e = rw e
+
+-- no other opcode looks up
+module _ (weights : List XFieldElement) (prev curr : List ℕ) {ci : ℕ} (read : ci ≡ getD prev 3 0) where
   not : (k : ℕ) → (ci ≡ k → ⊥) → eqb (getD prev 3 0) k ≡ false
   not k apart = ne-eqb (getD prev 3 0) k (λ e. apart (read ∙ e))
 
-  pub none : (OneOf (4 ∷ []) ci → ⊥) → (OneOf (6 ∷ 14 ∷ 30 ∷ []) ci → ⊥) → (OneOf (22 ∷ []) ci → ⊥) → (OneOf (12 ∷ 28 ∷ []) ci → ⊥)
-      → (OneOf (20 ∷ []) ci → ⊥) → (OneOf (36 ∷ 44 ∷ []) ci → ⊥) → Answer noFraction
-  unfolding u32Entries sumOfFractions
-  none n₁ n₂ n₃ n₄ n₅ n₆ =
+  pub no-entries : (OneOf (4 ∷ 6 ∷ 12 ∷ 14 ∷ 20 ∷ 22 ∷ 28 ∷ 30 ∷ 36 ∷ 44 ∷ []) ci → ⊥) → u32Entries weights prev curr ≡ []
+  unfolding u32Entries
+  no-entries n =
       simp (
-        not 4 n₁,
-        not 6 (λ e. n₂ (inl e)),
-        not 14 (λ e. n₂ (inr (inl e))),
-        not 30 (λ e. n₂ (inr (inr e))),
-        not 22 n₃,
-        not 12 (λ e. n₄ (inl e)),
-        not 28 (λ e. n₄ (inr e)),
-        not 20 n₅,
-        not 36 (λ e. n₆ (inl e)),
-        not 44 (λ e. n₆ (inr e)),
+        not 4 (λ e. n (inl e)),
+        not 6 (λ e. n (inr (inl e))),
+        not 12 (λ e. n (inr (inr (inl e)))),
+        not 14 (λ e. n (inr (inr (inr (inl e))))),
+        not 20 (λ e. n (inr (inr (inr (inr (inl e)))))),
+        not 22 (λ e. n (inr (inr (inr (inr (inr (inl e))))))),
+        not 28 (λ e. n (inr (inr (inr (inr (inr (inr (inl e)))))))),
+        not 30 (λ e. n (inr (inr (inr (inr (inr (inr (inr (inl e))))))))),
+        not 36 (λ e. n (inr (inr (inr (inr (inr (inr (inr (inr (inl e)))))))))),
+        not 44 (λ e. n (inr (inr (inr (inr (inr (inr (inr (inr (inr e)))))))))),
       )
+
+-- the opcodes of six arms, one after the other
+pub together : {ci : ℕ} → (OneOf (4 ∷ []) ci → ⊥) → (OneOf (6 ∷ 14 ∷ 30 ∷ []) ci → ⊥) → (OneOf (22 ∷ []) ci → ⊥) → (OneOf (12 ∷ 28 ∷ []) ci → ⊥)
+    → (OneOf (20 ∷ []) ci → ⊥) → (OneOf (36 ∷ 44 ∷ []) ci → ⊥) → OneOf (4 ∷ 6 ∷ 12 ∷ 14 ∷ 20 ∷ 22 ∷ 28 ∷ 30 ∷ 36 ∷ 44 ∷ []) ci → ⊥
+together n₁ n₂ n₃ n₄ n₅ n₆ (inl e) = n₁ e
+together n₁ n₂ n₃ n₄ n₅ n₆ (inr (inl e)) = n₂ (inl e)
+together n₁ n₂ n₃ n₄ n₅ n₆ (inr (inr (inl e))) = n₄ (inl e)
+together n₁ n₂ n₃ n₄ n₅ n₆ (inr (inr (inr (inl e)))) = n₂ (inr (inl e))
+together n₁ n₂ n₃ n₄ n₅ n₆ (inr (inr (inr (inr (inl e))))) = n₅ e
+together n₁ n₂ n₃ n₄ n₅ n₆ (inr (inr (inr (inr (inr (inl e)))))) = n₃ e
+together n₁ n₂ n₃ n₄ n₅ n₆ (inr (inr (inr (inr (inr (inr (inl e))))))) = n₄ (inr e)
+together n₁ n₂ n₃ n₄ n₅ n₆ (inr (inr (inr (inr (inr (inr (inr (inl e)))))))) = n₂ (inr (inr e))
+together n₁ n₂ n₃ n₄ n₅ n₆ (inr (inr (inr (inr (inr (inr (inr (inr (inl e))))))))) = n₆ (inl e)
+together n₁ n₂ n₃ n₄ n₅ n₆ (inr (inr (inr (inr (inr (inr (inr (inr (inr e))))))))) = n₆ (inr e)

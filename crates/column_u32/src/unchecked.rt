@@ -13,13 +13,16 @@ use field_base::unchecked::add;
 use field_base::unchecked::mul;
 use field_base::unchecked::sub;
 ghost use mathlib.Core.Path.{_≡_};
-ghost use mathlib.Core.Bool.{true};
-ghost use mathlib.Core.List.{[]};
-ghost use Prim.Native.Nat.{_<_};
+ghost use mathlib.Core.Bool.{true, false};
+ghost use mathlib.Core.List.{List, []};
+ghost use Prim.Native.Nat.{ℕ, _<_};
 ghost use lib.ListN.{getD};
 ghost use Rattle.algebra.specs.Modulus.{p};
 ghost use Rattle.field_base.specs.Words.{allBelow};
 ghost use Rattle.field.specs.Element.{Canonical};
+ghost use Rattle.field.specs.declared.XFieldElement.{XFieldElement};
+ghost use Rattle.air.specs.MainColumn.{CI};
+ghost use Rattle.column_entries.specs.Row.{wordAt};
 ghost use Rattle.column_entries.specs.Entries.{u32Entries, andOfXor};
 ghost use Rattle.column_entries.specs.Contribution.{sumOfFractions, noFraction};
 
@@ -52,6 +55,25 @@ fn and_from_xor(a: u64, b: u64, xor: u64) -> u64
     ensures { λ r. ⌜ r ≡ andOfXor a b xor ⌝ }
 {
     mul(sub(add(a, b), xor), ONE_HALF)
+}
+
+// Whether an instruction with this opcode in the previous row looks up in the u32 table.
+pub fn looks_up_u32(ci: u64) -> bool
+    ensures { λ r. ⌜ (r ≡ false → (weights : List XFieldElement) (prev curr : List ℕ) → ci ≡ wordAt prev CI → u32Entries weights prev curr ≡ []) ⌝ }
+{
+    match ci {
+        SPLIT
+        | LT
+        | LOG_2_FLOOR
+        | AND
+        | DIV_MOD
+        | XOR
+        | POP_COUNT
+        | POW
+        | MERKLE_STEP
+        | MERKLE_STEP_MEM => true,
+        _ => false,
+    }
 }
 
 pub fn fraction_for_u32_lookup(

@@ -1,7 +1,6 @@
 // Extension: the auxiliary table of the processor, eleven columns of three words.
 use extend_answer::extend_answer;
-use extend_denominators::unchecked::invert_denominators;
-use extend_table::unchecked::write_cells;
+use extend_chunks::unchecked::extend_by_chunks;
 use refusal::Answer;
 ghost use mathlib.Core.Path.{_≡_};
 ghost use lib.ListN.{length, replicate};
@@ -57,8 +56,7 @@ fn extended_or_refused(
     match answer {
         Answer::Refused(refusal) => Answer::Refused(refusal),
         Answer::Done => {
-            invert_denominators(main, challenges, work);
-            write_cells(main, challenges, work, aux);
+            extend_by_chunks(main, challenges, chunk, aux, work);
             clear(work);
             Answer::Done
         }

@@ -6,6 +6,7 @@ use isa_decoding::Decoded;
 use refusal::Answer;
 use refusal::MAX_LEN;
 use refusal::Refusal;
+use table_rows::unchecked::started_chunks;
 ghost use mathlib.Core.Path.{_≡_};
 ghost use mathlib.Core.Bool.{true, cond, not};
 ghost use Rattle.refusal.specs.declared.Answer.the-variants.{Refused};
@@ -16,8 +17,8 @@ ghost use Rattle.extend_answer.specs.Answer.{rightLengths};
 ghost use Rattle.extend_answer.specs.Strict.{answerIn};
 ghost use Rattle.extend_answer.specs.RowsAnswer.{rowsAnswer};
 
-fn right_lengths(main: &[u64], challenges: &[u64], aux: &[u64], work: &[u64]) -> bool
-    ensures { λ r. ⌜ r ≡ rightLengths (now (main .entry)) (now (challenges .entry)) (now (aux .entry)) (now (work .entry)) ⌝ }
+fn right_lengths(main: &[u64], challenges: &[u64], aux: &[u64]) -> bool
+    ensures { λ r. ⌜ r ≡ rightLengths (now (main .entry)) (now (challenges .entry)) (now (aux .entry)) ⌝ }
 {
     let rows = main.len() / MainIndex::COUNT;
     if main.len() % MainIndex::COUNT != 0 {
@@ -27,9 +28,6 @@ fn right_lengths(main: &[u64], challenges: &[u64], aux: &[u64], work: &[u64]) ->
         return false;
     }
     if challenges.len() != 189 {
-        return false;
-    }
-    if work.len() != rows * 6 {
         return false;
     }
     true
@@ -87,7 +85,7 @@ pub fn extend_answer(
 ) -> Answer
     ensures { λ r. ⌜ r ≡ answerIn strict (now (main .entry)) (now (challenges .entry)) chunk (now (aux .entry)) (now (work .entry)) ⌝ }
 {
-    if !right_lengths(main, challenges, aux, work) {
+    if !right_lengths(main, challenges, aux) {
         return Answer::Refused(Refusal::SliceLength);
     }
     let rows = main.len() / MainIndex::COUNT;
@@ -96,6 +94,9 @@ pub fn extend_answer(
     }
     if chunk == 0 {
         return Answer::Refused(Refusal::ChunkLengthZero);
+    }
+    if work.len() != started_chunks(rows, chunk) * 6 {
+        return Answer::Refused(Refusal::SliceLength);
     }
     if !field_base::all_below(challenges) {
         return Answer::Refused(Refusal::WordNotBelowP);

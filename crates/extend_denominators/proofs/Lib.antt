@@ -1,5 +1,7 @@
--- Laws of the denominators, and of loops over a table's windows.
+-- Laws of the denominators.
+pub mod Parts
+pub mod Windows
+pub mod Products
 pub mod Zeros
 pub mod Rows
 pub mod Items
-pub mod Windows

@@ -1,2 +1,3 @@
--- The denominators of a table, row by row.
+-- The denominators of rows, of chunks and of a table.
+pub mod Behind
 pub mod Items

@@ -1,2 +1,3 @@
 -- Laws of the denominators.
 pub mod Joint
+pub mod Stored

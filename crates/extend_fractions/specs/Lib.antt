@@ -1,2 +1,3 @@
--- What a window brings to the three lookup columns.
+-- What a window brings to the three lookup columns, and how it is kept in a slice.
 pub mod Fractions
+pub mod Stored

@@ -14,18 +14,18 @@ pub enum BaseAnswer {
     Refused(Refusal),
 }
 
-// Whether every word is below p.
+// Whether every word is below p. No branch in the loop: the top bit of w & (p - 1 - w), modulo 2^64, is set where w is not below p.
 pub fn all_below(words: &[u64]) -> bool
     ensures { λ r. ⌜ r ≡ allBelow (now (words .entry)) ⌝ }
 {
+    let mut above: u64 = 0;
     let mut i: usize = 0;
     while i < words.len() {
-        if P <= words[i] {
-            return false;
-        }
+        let w = words[i];
+        above |= w & std::num::wrapping_sub_u64(P - 1, w);
         i += 1;
     }
-    true
+    above < 9223372036854775808
 }
 
 pub fn add(a: u64, b: u64) -> BaseAnswer

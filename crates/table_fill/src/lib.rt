@@ -3,7 +3,7 @@ use air::MainIndex;
 use refusal::Answer;
 use refusal::MAX_LEN;
 use refusal::Refusal;
-use table_rows::unchecked::put_row;
+use table_rows::unchecked::copy_row;
 use table_rows::unchecked::raise_multiplicity;
 ghost use mathlib.Core.Path.{_≡_};
 ghost use mathlib.Core.Bool.{true};
@@ -98,9 +98,8 @@ fn copy_rows(trace: &[u64], table: &mut [u64])
     let multiplicity = MainIndex::CLOCK_JUMP_DIFFERENCE_LOOKUP_MULTIPLICITY.0;
     let mut c: usize = 0;
     while c < rows {
-        let mut row = table_rows::unchecked::row(trace, c);
-        row[multiplicity] = 0;
-        put_row(table, c, row);
+        copy_row(trace, table, c);
+        table[c * MainIndex::COUNT + multiplicity] = 0;
         c += 1;
     }
 }

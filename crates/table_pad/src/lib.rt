@@ -7,9 +7,10 @@ use table_rows::unchecked::put_row;
 use table_rows::unchecked::raise_multiplicity;
 use table_rows::unchecked::row;
 ghost use mathlib.Core.Path.{_≡_};
-ghost use Prim.Native.Nat.{_-_, _≤_, _<_};
+ghost use Prim.Native.Nat.{_+_, _-_, _*_, _≤_, _<_};
+ghost use lib.ListN.{length, set};
 ghost use Rattle.table_rows.specs.Rows.{rows, rowAt};
-ghost use Rattle.table_rows.specs.Writes.{withRows};
+ghost use Rattle.table_rows.specs.Writes.{withRow, withRows};
 ghost use Rattle.table_pad.specs.Height.{height};
 ghost use Rattle.table_pad.specs.Pad.{padAnswer, padTable, paddingRow};
 
@@ -70,12 +71,31 @@ fn copy_down(table: &mut [u64], table_len: usize)
     ensures { λ r. ⌜ now (table .exit) ≡ withRows 39 (now (table .entry)) (paddingRow (rowAt (now (table .entry)) («table_len» - 1))) «table_len» (rows (now (table .entry)) - «table_len») ⌝ }
 {
     let rows = table.len() / MainIndex::COUNT;
-    let last = row(table, table_len - 1);
-    let mut c = table_len;
-    while c < rows {
-        put_row(table, c, padding_row(last, c));
-        c += 1;
+    if table_len < rows {
+        let last = row(table, table_len - 1);
+        put_row(table, table_len, padding_row(last, table_len));
+        let mut c = table_len + 1;
+        while c < rows {
+            repeat_row(table, c);
+            c += 1;
+        }
     }
+}
+
+// Row c like the row above it, at the clock c: the clock is its first word.
+fn repeat_row(table: &mut [u64], c: usize)
+    requires { ⌜ (0 < c) × ((c + 1) * 39 ≤ length (now table)) ⌝ }
+    ensures { λ r. ⌜ now (table .exit) ≡ withRow 39 (now (table .entry)) c (set (rowAt (now (table .entry)) (c - 1)) 0 c) ⌝ }
+{
+    let at = c * MainIndex::COUNT;
+    let to = at + 1;
+    let from = to - MainIndex::COUNT;
+    let mut i: usize = 0;
+    while i < 38 {
+        table[to + i] = table[from + i];
+        i += 1;
+    }
+    table[at] = c as u64;
 }
 
 // The rows of the table that holds a trace: a power of two, at least 2.

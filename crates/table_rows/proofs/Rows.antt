@@ -5,7 +5,7 @@ use Prim.Native.Nat.{ℕ, zero, suc, _+_, _-_, _*_, _≤_, _<_}
 use native.Mathlib.Nat.{zero-add, add-zero, suc-add, suc-mul, add-mul, zero-mul}
 use native.Mathlib.Omega.{arith}
 use lib.ListN.{length, take, drop, getD, set, length-append, length-drop, take-append-drop, drop-of-length-le, List·getD-append}
-use lib.Seq.{sets, sets-eq, take-all, take-add, drop-drop, length-take-le, take-at, drop-at, getD-append-add, set-append-left}
+use lib.Seq.{sets, sets-eq, paste, take-paste, drop-paste, take-all, take-add, drop-drop, length-take-le, take-at, drop-at, getD-append-add, set-append-left}
 use Rattle.table_rows.specs.Rows.{rowAt, rowsFrom}
 use Rattle.table_rows.specs.Writes.{withRow, withRows}
 
@@ -45,6 +45,23 @@ rows-of table c (suc n) =
     let e₁ : suc n * 39 ≡ 39 + n * 39 = omega arith in
     let e₂ : suc c * 39 ≡ c * 39 + 39 = omega arith in
     rw (rows-of table (suc c) n, e₁, take-add, drop-drop, e₂)
+
+-- n words copied to where they stand in another list, and then the next m
+pub paste-on : (from to : List ℕ) (at n m : ℕ) → at + n ≤ length from → at + n ≤ length to
+    → paste (paste to at (drop at from) n) (at + n) (drop (at + n) from) m ≡ paste to at (drop at from) (n + m)
+paste-on from to at n m hf ht =
+    let room : at ≤ length to = omega arith in
+    let some : n ≤ length (drop at from) = simp length-drop (omega arith) in
+    let end : at + (n + m) ≡ at + n + m = omega arith in
+    rw (
+      ← drop-drop m (at + n) (paste to at (drop at from) n),
+      take-paste to at (drop at from) n room some,
+      drop-paste to at (drop at from) n room some,
+      drop-drop,
+      end,
+      take-add n m (drop at from),
+      drop-drop,
+    ) (simp append-assoc)
 
 -- n rows from row c on have `width` words each
 abbrev pub Whole : ℕ → (ℕ → List ℕ) → ℕ → ℕ → Type 0
@@ -92,6 +109,24 @@ module _ (width : ℕ) (table : List ℕ) (row : ℕ → List ℕ) (c n : ℕ) w
 set-append-add : (xs ys : List ℕ) (n v : ℕ) → set (xs ++ ys) (length xs + n) v ≡ xs ++ set ys n v
 set-append-add [] ys n v = rw zero-add
 set-append-add (x ∷ xs) ys n v = rw (suc-add, set-append-add xs ys n v)
+
+set-between : (front row back : List ℕ) (j v at : ℕ) → length front ≡ at → j < length row → set (front ++ row ++ back) (at + j) v ≡ front ++ set row j v ++ back
+set-between front row back j v at e g = rw (← e, append-assoc front row back, set-append-add front (row ++ back) j v, set-append-left row back j v g) (simp append-assoc)
+
+-- a word of a row that was put
+pub set-in-put : (width : ℕ) (table : List ℕ) (c : ℕ) (row : List ℕ) (j v : ℕ) → c * width ≤ length table → j < length row
+    → set (withRow width table c row) (c * width + j) v ≡ withRow width table c (set row j v)
+set-in-put width table c row j v h g =
+    let front = take (c * width) table in
+    let back = drop (suc c * width) table in
+    let e : length front ≡ c * width = length-take-le (c * width) table h in
+    set-between front row back j v (c * width) e g
+
+pub row-of-put : (table : List ℕ) (c : ℕ) (row : List ℕ) → c * 39 ≤ length table → length row ≡ 39 → rowAt (withRow 39 table c row) c ≡ row
+row-of-put table c row h e =
+    let front = take (c * 39) table in
+    let back = drop (suc c * 39) table in
+    rw (append-assoc front row back, drop-at front (row ++ back) (c * 39) (length-take-le (c * 39) table h), take-at row back 39 e)
 
 -- word j of row d, where n rows stand before the rest
 module _ (width : ℕ) (row : ℕ → List ℕ) (n : ℕ) (rest : List ℕ) (whole : Whole width row 0 n) (d j : ℕ) (within : d < n) (column : j < width) where

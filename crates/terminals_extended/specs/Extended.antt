@@ -4,7 +4,7 @@ use Prim.Native.Nat.{ℕ, _-_, _*_}
 use lib.ListN.{length, drop}
 use Rattle.refusal.specs.declared.Answer.{Answer}
 use Rattle.air.specs.AuxColumn.{AUX-WORDS}
-use Rattle.table_rows.specs.Rows.{rows}
+use Rattle.table_rows.specs.Rows.{rows, startedChunks}
 use Rattle.extend_answer.specs.Answer.{extendAnswer, WORK-WORDS}
 use Rattle.extend.specs.Extend.{extendAux}
 use Rattle.batch.specs.Lent.{zeros}
@@ -19,7 +19,7 @@ module _ (main challenges : List ℕ) where
   aux = zeros (rows main * AUX-WORDS)
 
   abbrev work : List ℕ
-  work = zeros (rows main * WORK-WORDS)
+  work = zeros (startedChunks (rows main) 4 * WORK-WORDS)
 
   unfoldable pub extendedAnswer : Answer
   extendedAnswer = extendAnswer main challenges 4 aux work

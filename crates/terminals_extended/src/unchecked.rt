@@ -1,6 +1,7 @@
 // The caller lends a table of a few rows.
 use air::MainIndex;
 use refusal::Answer;
+use table_rows::unchecked::started_chunks;
 ghost use mathlib.Core.Path.{_≡_};
 ghost use Prim.Native.Nat.{_≤_};
 ghost use lib.ListN.{length};
@@ -53,9 +54,9 @@ pub fn extended_cells(main: &[u64], challenges: &[u64], cells: &mut [u64; 33]) -
 {
     let rows = main.len() / MainIndex::COUNT;
     let mut aux = [0u64; 1122];
-    let mut work = [0u64; 204];
+    let mut work = [0u64; 54];
     let aux_end = rows * 33;
-    let work_end = rows * 6;
+    let work_end = started_chunks(rows, CHUNK) * 6;
     extended_into(
         main,
         challenges,

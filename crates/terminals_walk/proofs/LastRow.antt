@@ -13,7 +13,7 @@ use Rattle.refusal.specs.declared.Answer.{Answer}
 use Rattle.refusal.specs.declared.Answer.the-variants.{Done, Refused}
 use Rattle.refusal.specs.declared.Refusal.the-variants.{SliceLength, WordNotBelowP, ZeroDenominator}
 use Rattle.field_base.specs.Words.{allBelow}
-use Rattle.table_rows.specs.Rows.{wholeRows, rows, rowsFrom}
+use Rattle.table_rows.specs.Rows.{wholeRows, rows, rowsFrom, startedChunks}
 use Rattle.table_rows.proofs.Rows.{one-more-row, length-rows}
 use Rattle.column_entries.specs.Columns.{running, cell}
 use Rattle.column_entries.specs.AuxRow.{auxRow}
@@ -35,7 +35,7 @@ pub record Table (main : List ℕ) : Type 0 where
 -- past 3 and 5, which it does not answer
 abbrev pub byTests : Bool → Bool → Bool → Answer
 byTests record-whole below zero =
-    cond (not (record-whole && true)) (Refused SliceLength) (cond (not below) (Refused WordNotBelowP) (cond zero (Refused ZeroDenominator) Done))
+    cond (not record-whole) (Refused SliceLength) (cond (not below) (Refused WordNotBelowP) (cond zero (Refused ZeroDenominator) Done))
 
 module _ (main challenges : List ℕ) (table : Table main) where
   pub answer : rows main ≤ 4194304 → extendedAnswer main challenges ≡ byTests (eqb (length challenges) 189) (allBelow main && allBelow challenges) (zeroDenominator main challenges)
@@ -44,9 +44,9 @@ module _ (main challenges : List ℕ) (table : Table main) where
       rw (
         table .whole,
         eq-eqb (length (zeros (rows main * 33))) (rows main * 33) (length-zeros (rows main * 33)),
-        eq-eqb (length (zeros (rows main * 6))) (rows main * 6) (length-zeros (rows main * 6)),
         ne-eqb (rows main) 0 (λ e. omega (arith, e, table .some)),
         le-leb (rows main) 4194304 short,
+        eq-eqb (length (zeros (startedChunks (rows main) 4 * 6))) (startedChunks (rows main) 4 * 6) (length-zeros (startedChunks (rows main) 4 * 6)),
       )
 
   last-of : (f : ℕ → List ℕ) → ((k : ℕ) → length (f k) ≡ 33) → (n : ℕ) → lastRow (rowsFrom f 0 (n + 1)) ≡ f n
@@ -69,8 +69,8 @@ module _ (main challenges : List ℕ) (table : Table main) where
 
 -- where extension is done, its last row has 33 words
 pub cells-long : (main challenges : List ℕ) → extendedAnswer main challenges ≡ Done → length (extendedCells main challenges) ≡ 33
-unfolding extendedAnswer extendAnswer
+unfolding extendedAnswer
 cells-long main challenges done =
-    let accepted = passed main challenges 4 (zeros (rows main * 33)) (zeros (rows main * 6)) done in
+    let accepted = passed main challenges 4 _ _ done in
     let some = eqb-false (rows main) 0 (accepted .some-row) in
     ap length (cells main challenges (record { whole = accepted .fitting .whole; some = omega (arith, some) }) done) ∙ row.length-row (λ c. running c challenges main (rows main))

@@ -27,7 +27,6 @@ use Rattle.extend_cells.specs.Cells.{cellsOf, CanonicalCells}
 use Rattle.extend_cells.proofs.Canonical.{canonical-cells}
 use Rattle.extend_padding.proofs.Padding.{padding-fractions}
 use Rattle.extend_answer.proofs.Accepted.{passed, ready}
-use Rattle.batch.specs.Lent.{zeros}
 use Rattle.terminals_extended.specs.Extended.{extendedAnswer, extendedCells}
 use Rattle.terminals_walk.specs.Grown.{grown, EndsInPadding, Growing}
 use Rattle.terminals_walk.proofs.Grown.{row, last, length-last, main-rows, begins, grown-whole, grown-height, grown-below, from-last, at-last, zero-grown}
@@ -101,7 +100,7 @@ module _ (main : List ℕ) (height : ℕ) (growing : Growing main height) (chall
       unfolding extendedAnswer
       last-ready =
           let k = rows main in
-          let given = ready main challenges 4 (zeros (k * 33)) (zeros (k * 6)) done in
+          let given = ready main challenges 4 _ _ done in
           let below = below-take 39 (drop ((k - 1) * 39) main) (below-drop ((k - 1) * 39) main (given .main-below)) in
           record { whole = given .whole; challenges-below = given .challenges-below; main-below = below }
 
@@ -112,7 +111,7 @@ module _ (main : List ℕ) (height : ℕ) (growing : Growing main height) (chall
           let k = rows main in
           let r = k - 1 in
           let f = row main height growing in
-          let none = passed main challenges 4 (zeros (k * 33)) (zeros (k * 6)) done .no-zero in
+          let none = passed main challenges 4 _ _ done .no-zero in
           let same =
           ap (λ t. rowFractions challenges t r) (sym (begins main height growing))
           ∙ fractions-given challenges f k (main-rows main height growing k) r (omega (arith, growing .some))

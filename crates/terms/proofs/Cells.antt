@@ -4,7 +4,7 @@ use mathlib.Core.List.{List}
 use Prim.Native.Nat.{ℕ, _+_, _*_, _<_}
 use Rattle.field.specs.Element.{elementAt}
 use Rattle.table_rows.specs.Rows.{rows}
-use Rattle.extend_denominators.proofs.Windows.{element-in-row}
+use Rattle.extend_chunks.proofs.Rows.{element-in-row}
 use Rattle.column_entries.specs.Columns.{Column, cell}
 use Rattle.column_entries.specs.AuxRow.{placeOf}
 use Rattle.column_entries.proofs.AuxRow.{length-row, value-at, place-within}

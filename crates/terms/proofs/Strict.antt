@@ -22,7 +22,7 @@ use Rattle.column_entries.specs.Denominators.{zeroDenominator}
 use Rattle.column_entries.specs.Row.{instructionOf}
 use Rattle.extend_answer.specs.Answer.{rightLengths, extendAnswer}
 use Rattle.extend_answer.specs.Strict.{isRead, undecodable, undecodableFrom, behindEleven, turnedAway, strictAnswer}
-use Rattle.extend_answer.proofs.Accepted.{wrongRows, wrongWords, byRows, byChunk, byWords, byDenominators}
+use Rattle.extend_answer.proofs.Accepted.{wrongRows, wrongWork, wrongWords, byRows, byChunk, byWork, byWords, byDenominators}
 use Rattle.extend_table.specs.Extended.{extended}
 use Rattle.extend.specs.Extend.{extendAux, extendWork, strictAux, strictWork}
 use Rattle.terms.specs.Strict.{Undecodable, PastTwo, Eleven, Elsewhere, Strict}
@@ -81,25 +81,27 @@ module _ (main challenges : List ℕ) (chunk : ℕ) (aux work : List ℕ) where
   past-two : behindEleven answer ≡ true → PastTwo main challenges chunk aux work
   unfolding extendAnswer
   past-two h =
-      let a = past-behind (not (rightLengths main challenges aux work)) SliceLength (byRows main challenges chunk) refl h in
-      let b = past-behind (wrongRows main) RowCount (byChunk main challenges chunk) refl (a .1) in
-      let c = past-behind (eqb chunk 0) ChunkLengthZero (byWords main challenges) refl (b .1) in
-      let d = past-behind (wrongWords main challenges) WordNotBelowP (byDenominators main challenges) refl (c .1) in
-      record { lengths = not-false _ (a .0); row-count = b .0; chunk-length = c .0; words = not-false _ (d .0) }
+      let a = past-behind (not (rightLengths main challenges aux)) SliceLength (byRows main challenges chunk work) refl h in
+      let b = past-behind (wrongRows main) RowCount (byChunk main challenges chunk work) refl (a .1) in
+      let c = past-behind (eqb chunk 0) ChunkLengthZero (byWork main challenges chunk work) refl (b .1) in
+      let d = past-behind (wrongWork main chunk work) SliceLength (byWords main challenges) refl (c .1) in
+      let e = past-behind (wrongWords main challenges) WordNotBelowP (byDenominators main challenges) refl (d .1) in
+      record { lengths = not-false _ (a .0); row-count = b .0; chunk-length = c .0; work-length = not-false _ (d .0); words = not-false _ (e .0) }
 
   to-denominators : PastTwo main challenges chunk aux work → answer ≡ byDenominators main challenges
   unfolding extendAnswer
-  to-denominators past = rw (past .lengths, past .row-count, past .chunk-length, past .words)
+  to-denominators past = rw (past .lengths, past .row-count, past .chunk-length, past .work-length, past .words)
 
   never-eleven : answer ≢ Refused UndecodableRow
   unfolding extendAnswer
   never-eleven =
-      not-eleven (not (rightLengths main challenges aux work)) SliceLength (byRows main challenges chunk) (λ e. omega arith)
-      (not-eleven (wrongRows main) RowCount (byChunk main challenges chunk) (λ e. omega arith)
-      (not-eleven (eqb chunk 0) ChunkLengthZero (byWords main challenges) (λ e. omega arith)
+      not-eleven (not (rightLengths main challenges aux)) SliceLength (byRows main challenges chunk work) (λ e. omega arith)
+      (not-eleven (wrongRows main) RowCount (byChunk main challenges chunk work) (λ e. omega arith)
+      (not-eleven (eqb chunk 0) ChunkLengthZero (byWork main challenges chunk work) (λ e. omega arith)
+      (not-eleven (wrongWork main chunk work) SliceLength (byWords main challenges) (λ e. omega arith)
       (not-eleven (wrongWords main challenges) WordNotBelowP (byDenominators main challenges) (λ e. omega arith)
       (not-eleven (zeroDenominator main challenges) ZeroDenominator Done (λ e. omega arith)
-      (λ e. let z = ap answerNumberOf e in omega arith)))))
+      (λ e. let z = ap answerNumberOf e in omega arith))))))
 
   from-test : (b : Bool) → (undecodable main && behindEleven answer) ≡ b → cond b (Refused UndecodableRow) answer ≡ Refused UndecodableRow → PastTwo main challenges chunk aux work × (c : ℕ) × (c < rows main) × Undecodable main c
   from-test true t e =

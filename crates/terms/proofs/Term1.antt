@@ -34,14 +34,14 @@ use Rattle.challenges.specs.Derived as challenges
 use Rattle.challenges.specs.Derived.{challengesAnswer, challengesRecord, derivedRecord, allWordsBelow}
 use Rattle.scan_steps.specs.Scan.{scannedMaps, scannedProducts, scannedSums}
 use Rattle.running_arguments.specs.Answers.{wholeItems, scanAnswer, scanWords}
-use Rattle.table_rows.specs.Rows.{wholeRows, rows}
+use Rattle.table_rows.specs.Rows.{wholeRows, rows, startedChunks}
 use Rattle.table_fill.specs.Fill.{allUnder, multiplicity, filled, fillAnswer, fillTable}
 use Rattle.table_pad.specs.Pad.{padded, padAnswer, padTable}
 use Rattle.column_entries.specs.Denominators.{zeroDenominator}
 use Rattle.extend_table.specs.Extended.{extended}
 use Rattle.extend_answer.specs.Answer as extension
 use Rattle.extend_answer.specs.Answer.{extendAnswer}
-use Rattle.extend_answer.proofs.Accepted.{wrongRows, wrongWords}
+use Rattle.extend_answer.proofs.Accepted.{wrongRows, wrongWork, wrongWords}
 use Rattle.extend_answer.specs.Strict.{undecodable, behindEleven, strictAnswer}
 use Rattle.extend.specs.Extend.{extendAux, extendWork, strictAux, strictWork}
 use Rattle.batch_commands.specs.declared.Seen.{Seen}
@@ -210,9 +210,10 @@ padTests table len =
 
 abbrev extendTests : List ℕ → List ℕ → ℕ → List ℕ → List ℕ → Tests
 extendTests main challenges chunk aux work =
-    (not (extension.rightLengths main challenges aux work), SliceLength)
+    (not (extension.rightLengths main challenges aux), SliceLength)
     ∷ (wrongRows main, RowCount)
     ∷ (eqb chunk 0, ChunkLengthZero)
+    ∷ (wrongWork main chunk work, SliceLength)
     ∷ (wrongWords main challenges, WordNotBelowP)
     ∷ (zeroDenominator main challenges, ZeroDenominator)
     ∷ []
@@ -278,8 +279,9 @@ module _ (record-words : List ℕ) where
   unfolding extendedAnswer extendAnswer
   extended-ends main =
       by-refusals
-      ((not (extension.rightLengths main record-words (zeros (rows main * 33)) (zeros (rows main * 6))), SliceLength)
+      ((not (extension.rightLengths main record-words (zeros (rows main * 33))), SliceLength)
       ∷ (wrongRows main, RowCount)
+      ∷ (wrongWork main 4 (zeros (startedChunks (rows main) 4 * 6)), SliceLength)
       ∷ (wrongWords main record-words, WordNotBelowP)
       ∷ (zeroDenominator main record-words, ZeroDenominator)
       ∷ []) tt

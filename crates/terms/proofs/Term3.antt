@@ -55,7 +55,7 @@ module _ (c : Column) (sampled : ℕ → XFieldElement) (x : XFieldElement) (mai
       (λ j h. ends .given j (h .0) ∙ put-other (indeterminateOf c) x sampled j (h .1)) (weightsOf c)
       (All-both (λ j. j < SAMPLE-COUNT) (λ j. j ≢ indeterminateOf c) (weightsOf c) (all-sampled c .weights-sampled) (all-sampled c .weights-other)))
 
-  tests : Accepted main (ends .challenges) (ends .aux) (ends .work)
+  tests : Accepted main (ends .challenges) (ends .chunk) (ends .aux) (ends .work)
   tests = passed main (ends .challenges) (ends .chunk) (ends .aux) (ends .work) (ends .accepted)
 
   -- the column's argument over all entries

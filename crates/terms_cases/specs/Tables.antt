@@ -10,6 +10,7 @@ use Rattle.air.specs.Count.{upTo}
 use Rattle.air.specs.ChallengeId.{COUNT}
 use Rattle.air.specs.AuxColumn.{AUX-WORDS}
 use Rattle.air.specs.MainColumn.{CLK, IS-PADDING, CI, NIA, CLOCK-JUMP-DIFFERENCE-LOOKUP-MULTIPLICITY}
+use Rattle.table_rows.specs.Rows.{startedChunks}
 use Rattle.column_entries.specs.Columns.{Column, indeterminateOf}
 use Rattle.extend_answer.specs.Answer.{WORK-WORDS}
 use Rattle.extend.specs.Extend.{extendAux}
@@ -45,7 +46,7 @@ ten c = elements (map (λ i. cond (eqb i (indeterminateOf c)) 10 (100 + i)) (upT
 
 -- what extension of two rows leaves in the auxiliary table
 abbrev pub extension : List ℕ → List ℕ → List ℕ
-extension challenges table = extendAux table challenges 4 (replicate (2 * AUX-WORDS) 0) (replicate (2 * WORK-WORDS) 0)
+extension challenges table = extendAux table challenges 4 (replicate (2 * AUX-WORDS) 0) (replicate (startedChunks 2 4 * WORK-WORDS) 0)
 
 -- and in row 1 at a column's place, under the column's indeterminate 10
 abbrev pub lastCell : Column → ℕ → List ℕ → XFieldElement

@@ -14,7 +14,7 @@ use tealbobbin::abi;
 use tealbobbin::batch::Form;
 use tealbobbin::challenges::{Challenges, SampledChallenges};
 use tealbobbin::field::P;
-use tealbobbin::processor::WORK_WIDTH;
+use tealbobbin::processor::work_len;
 
 const CHUNK: usize = 4096;
 
@@ -391,7 +391,7 @@ fn main() {
     }
 
     let challenges: Vec<u64> = (0..Challenges::WORDS).map(|_| random.word() % P).collect();
-    let room = |rows: usize| (vec![0; rows * AUX_WIDTH], vec![0; rows * WORK_WIDTH]);
+    let room = |rows: usize| (vec![0; rows * AUX_WIDTH], vec![0; work_len(rows, CHUNK)]);
     const ROWS: usize = 1 << 16;
     let tables = [
         ("extend a row, usual instructions", usual_table(&mut random, ROWS)),

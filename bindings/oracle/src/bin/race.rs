@@ -21,6 +21,7 @@ use oracle::{Claimed, Differences, Extension, Items, MAIN_WIDTH, Main, Order, Sa
 use tealbobbin::abi;
 use tealbobbin::batch::{Form, MAX_TRACE_ROWS};
 use tealbobbin::field::P;
+use tealbobbin::processor::work_len;
 
 /// The chunk length of extension.
 const CHUNK: usize = 4096;
@@ -32,11 +33,11 @@ fn timed<T>(run: impl FnOnce() -> T) -> Duration {
 }
 
 /// The best time of each side, in nanoseconds a row, item or word. The sides run in turn, so that all meet the machine in the same
-/// mood, at least nine times and for two seconds.
+/// mood, at least nine times and for two seconds; after twenty seconds no round begins.
 fn best<const N: usize>(size: usize, mut sides: [&mut dyn FnMut() -> Duration; N]) -> [f64; N] {
     let mut best = [f64::INFINITY; N];
     let (began, mut rounds) = (Instant::now(), 0);
-    while rounds < 9 || began.elapsed() < Duration::from_secs(2) {
+    while began.elapsed() < Duration::from_secs(if rounds < 9 { 20 } else { 2 }) {
         for (side, best) in sides.iter_mut().zip(&mut best) {
             *best = best.min(side().as_secs_f64() * 1e9 / size as f64);
         }
@@ -57,7 +58,7 @@ fn extend(random: &mut Random, mix: Mix, rows: usize, padding: usize, every: u64
     let challenges = words(random, 189);
     let mut by_columns = Extension::new(&main, &challenges, Order::Columns);
     let mut by_rows = Extension::new(&main, &challenges, Order::Rows);
-    let (mut aux, mut work) = (vec![0; 33 * rows], vec![0; 6 * rows]);
+    let (mut aux, mut work) = (vec![0; 33 * rows], vec![0; work_len(rows, CHUNK)]);
     let [columns, row_by_row, library] = best(
         rows,
         [
@@ -73,7 +74,7 @@ fn extend(random: &mut Random, mix: Mix, rows: usize, padding: usize, every: u64
 /// Ordinary extension in the original's place, and strict extension.
 fn extend_strict(random: &mut Random, mix: Mix, rows: usize, padding: usize, every: u64) -> Times {
     let (main, challenges) = (mixed(random, mix, rows, padding, every), words(random, 189));
-    let [mut ordinary, mut strict] = [(); 2].map(|()| (vec![0; 33 * rows], vec![0; 6 * rows]));
+    let [mut ordinary, mut strict] = [(); 2].map(|()| (vec![0; 33 * rows], vec![0; work_len(rows, CHUNK)]));
     let run = |extend: Extend, (aux, work): &mut (Vec<u64>, Vec<u64>)| {
         timed(|| assert_eq!(extend(&main, &challenges, CHUNK, aux, work), 0))
     };
@@ -259,7 +260,7 @@ fn main() {
 fn tables(random: &mut Random) {
     header("original", "library");
     let rows = [1 << 12, 1 << 16, 1 << 18];
-    lines("extend, realistic", &rows, |rows| extend(random, REALISTIC, rows, rows / 4, 10));
+    lines("extend, realistic", &[&rows[..], &[1 << 20]].concat(), |rows| extend(random, REALISTIC, rows, rows / 4, 10));
     lines("extend, worst", &rows, |rows| extend(random, WORST, rows, 0, 1));
     lines("fill", &rows, |rows| fill(random, rows));
     lines("pad", &rows, |rows| pad(random, rows));

@@ -1,14 +1,9 @@
--- Nothing is written on a refusal; else the denominators are inverted in `work`, the cells written, and `work` cleared.
+-- Nothing is written on a refusal; else the cells are written chunk by chunk, and `work` is cleared.
 use mathlib.Core.Path.{_≡_, refl, sym, ap, _∙_}
 use mathlib.Core.Bool.{_&&_}
-use mathlib.Core.List.{List}
-use Prim.Native.Nat.{ℕ}
-use lib.ListN.{length, replicate}
+use lib.ListN.{replicate}
 use borrow.Author.Needs.{needs}
 use Rattle.refusal.specs.declared.Answer.the-variants.{Done}
-use Rattle.table_rows.specs.Rows.{rows}
-use Rattle.table_rows.proofs.Rows.{length-rows}
-use Rattle.extend_denominators.specs.Items.{denominatorOf, inverseItem}
 use Rattle.extend_answer.specs.Answer.{extendAnswer}
 use Rattle.extend_answer.specs.Strict.{undecodable}
 use Rattle.extend_answer.proofs.Accepted.{Accepted, passed, ready}
@@ -24,7 +19,7 @@ done c =
     let args = start c .args in
     done-plainly (args .strict && undecodable (args .main .now)) (extendAnswer (args .main .now) (args .challenges .now) (args .chunk) (args .aux .now) (args .work .now)) (sym (c .before .before .extend-answer .ensures) ∙ c .enum-told .given .1)
 
-accepted : (c : tie.After-enum-told) → let args = start c .args in Accepted (args .main .now) (args .challenges .now) (args .aux .now) (args .work .now)
+accepted : (c : tie.After-enum-told) → let args = start c .args in Accepted (args .main .now) (args .challenges .now) (args .chunk) (args .aux .now) (args .work .now)
 accepted c = let args = start c .args in passed (args .main .now) (args .challenges .now) (args .chunk) (args .aux .now) (args .work .now) (done c)
 
 extend-answer-requires : tie.Need-extend-answer-requires
@@ -36,16 +31,11 @@ enum-known-answer c = search needs
 enum-told : tie.Need-enum-told
 enum-told c = search needs
 
-invert-denominators-requires : tie.Need-invert-denominators-requires
-invert-denominators-requires c κs =
-    let told = c .before in
-    (ready _ _ _ _ _ (done told), (accepted told .fitting .work-length, accepted told .no-zero))
-
-write-cells-requires : tie.Need-write-cells-requires
-write-cells-requires c κs =
-    let inverted = c .before .before .before .before in
-    let told = inverted .before .before in
-    (ready _ _ _ _ _ (done told), (accepted told .fitting .aux-length, (accepted told .no-zero, inverted .invert-denominators .ensures)))
+extend-by-chunks-requires : tie.Need-extend-by-chunks-requires
+extend-by-chunks-requires c κs =
+    let told = c .before .before in
+    let a = accepted told in
+    (ready _ _ _ _ _ (done told), ((a .chunk-positive, a .fitting .whole), (a .no-zero, (a .fitting .aux-length, a .work-length))))
 
 clear-requires : tie.Need-clear-requires
 clear-requires c κs = search needs
@@ -68,14 +58,10 @@ same-length-4 c = search needs
 returns-2 : tie.Need-returns-2
 returns-2 c =
     let at-clear = c .before .before in
-    let wrote = at-clear .before .before .before .before in
-    let inverted = wrote .before .before .before .before .before in
-    let told = inverted .before .before in
-    let args = start told .args in
-    let main = args .main .now in
-    let item : ℕ → List ℕ = λ n. inverseItem (denominatorOf (args .challenges .now) main n) in
-    let same = ap length (inverted .invert-denominators .ensures) ∙ length-rows 6 item 0 (rows main) (λ n l h. refl) ∙ sym (accepted told .fitting .work-length) in
-    (sym (told .enum-told .given .1) ∙ told .before .before .extend-answer .ensures, (wrote .write-cells .ensures, at-clear .clear .ensures ∙ ap (λ n. replicate n 0) same))
+    let wrote = at-clear .before .before .before .before .before .before in
+    let told = wrote .before .before .before in
+    let same = wrote .extend-by-chunks .ensures .1 in
+    (sym (told .enum-told .given .1) ∙ told .before .before .extend-answer .ensures, (wrote .extend-by-chunks .ensures .0, at-clear .clear .ensures ∙ ap (λ n. replicate n 0) same))
 
 pub extended-or-refused-spec : {M : Type 1} → statement M
 extended-or-refused-spec =
@@ -84,8 +70,7 @@ extended-or-refused-spec =
     extend-answer-requires
     enum-known-answer
     enum-told
-    invert-denominators-requires
-    write-cells-requires
+    extend-by-chunks-requires
     clear-requires
     same-length
     same-length-2

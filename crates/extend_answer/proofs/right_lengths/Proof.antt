@@ -1,4 +1,4 @@
--- The four tests in order.
+-- The three tests in order.
 use borrow.Author.Needs.{needs}
 use borrow.Author.Tests.{eq-eqb, ne-eqb}
 use Rattle.extend_answer.proofs.right_lengths.Statement.{statement}
@@ -16,26 +16,8 @@ returns-2 c = simp (eq-eqb _ _ (c .before .if1 .left), ne-eqb _ _ (c .if2 .taken
 returns-3 : tie.Need-returns-3
 returns-3 c = simp (eq-eqb _ _ (c .before .before .if1 .left), eq-eqb _ _ (c .before .if2 .left), ne-eqb _ 189 (c .if3 .taken))
 
-mul-if4 : tie.Need-mul-if4
-mul-if4 c = search needs
-
 returns-4 : tie.Need-returns-4
-returns-4 c =
-    simp (
-      eq-eqb _ _ (c .before .before .before .if1 .left),
-      eq-eqb _ _ (c .before .before .if2 .left),
-      eq-eqb _ 189 (c .before .if3 .left),
-      ne-eqb _ _ (c .if4 .taken),
-    )
-
-returns-5 : tie.Need-returns-5
-returns-5 c =
-    simp (
-      eq-eqb _ _ (c .before .before .before .if1 .left),
-      eq-eqb _ _ (c .before .before .if2 .left),
-      eq-eqb _ 189 (c .before .if3 .left),
-      eq-eqb _ _ (c .if4 .left),
-    )
+returns-4 c = simp (eq-eqb _ _ (c .before .before .if1 .left), eq-eqb _ _ (c .before .if2 .left), eq-eqb _ 189 (c .if3 .left))
 
 pub right-lengths-spec : {M : Type 1} → statement M
-right-lengths-spec = tie.close (tie.spec returns mul-if2 returns-2 returns-3 mul-if4 returns-4 returns-5)
+right-lengths-spec = tie.close (tie.spec returns mul-if2 returns-2 returns-3 returns-4)

@@ -1,32 +1,35 @@
--- What is below p so far leaves the words from i on to decide.
+-- The top bit of what is gathered, and the words from i on, decide.
 use borrow.Author.Needs.{needs}
 use mathlib.Core.Path.{_≡_, refl, sym, _∙_}
+use mathlib.Core.Bool.{_&&_, and-true}
 use Prim.Native.Nat.{_-_, _≤_}
+use native.Mathlib.Omega.{arith}
 use lib.ListN.{length, drop}
 use Rattle.field_base.specs.Words.{allBelow}
-use Rattle.field_base.proofs.Below.{fails-at, holds-at, holds-past}
+use Rattle.field_base.proofs.Below.{clear, gathered-at, holds-past}
 use Rattle.field_base.proofs.all_below.Statement.{statement}
 use Rattle.field_base.proofs.all_below.Tie as tie
 
 abbrev Inv-loop : tie.InvT-loop
-Inv-loop words i₀ i = (i ≤ length words) × (allBelow words ≡ allBelow (drop i words))
+Inv-loop words above₀ i₀ above i = (i ≤ length words) × (allBelow words ≡ (clear above && allBelow (drop i words)))
 
 abbrev μ-loop : tie.MeasureT-loop
-μ-loop words i₀ i = length words - i
+μ-loop words above₀ i₀ above i = length words - i
 
 loop-holds : tie.Need-loop-holds Inv-loop μ-loop
 loop-holds c = (search needs, refl)
 
-mul-if1 : tie.Need-mul-if1 Inv-loop μ-loop
-mul-if1 c = search needs
+mul-w : tie.Need-mul-w Inv-loop μ-loop
+mul-w c = search needs
 
-shared-slice-read-if1 : tie.Need-shared-slice-read-if1 Inv-loop μ-loop
-shared-slice-read-if1 c = search needs
+shared-slice-read-w : tie.Need-shared-slice-read-w Inv-loop μ-loop
+shared-slice-read-w c = search needs
 
-returns : tie.Need-returns Inv-loop μ-loop
-returns c =
-    let at-loop = c .before .before .before in
-    sym (at-loop .loop .inv .1 ∙ fails-at (at-loop .before .args .words .now) (at-loop .loop .i) (search needs) (c .if1 .taken))
+sub-wrapping-sub-u64 : tie.Need-sub-wrapping-sub-u64 Inv-loop μ-loop
+sub-wrapping-sub-u64 c = search needs
+
+wrapping-sub-u64-requires : tie.Need-wrapping-sub-u64-requires Inv-loop μ-loop
+wrapping-sub-u64-requires c κs = search needs
 
 add-i : tie.Need-add-i Inv-loop μ-loop
 add-i c = search needs
@@ -37,10 +40,12 @@ loop-less c = search needs
 loop-again : tie.Need-loop-again Inv-loop μ-loop
 loop-again c =
     let at-loop = c .before .before .before in
-    (search needs, at-loop .loop .inv .1 ∙ holds-at (at-loop .before .args .words .now) (at-loop .loop .i) (search needs) (c .if1 .left))
+    let words = at-loop .before .before .args .words .now in
+    let i = at-loop .loop .i in
+    (search needs, at-loop .loop .inv .1 ∙ gathered-at words i (at-loop .loop .above) (c .wrapping-sub-u64 .result) (search needs) (omega (arith, c .before .shared-slice-known2 .given i)) (search needs) (c .wrapping-sub-u64 .ensures))
 
-returns-2 : tie.Need-returns-2 Inv-loop μ-loop
-returns-2 c = sym (c .before .loop .inv .1 ∙ holds-past _ (c .before .loop .i) (c .loop-test .left))
+returns : tie.Need-returns Inv-loop μ-loop
+returns c = sym (c .before .loop .inv .1 ∙ rw (holds-past _ (c .before .loop .i) (c .loop-test .left), and-true))
 
 pub all-below-spec : {M : Type 1} → statement M
 all-below-spec =
@@ -49,10 +54,11 @@ all-below-spec =
     Inv-loop
     μ-loop
     loop-holds
-    mul-if1
-    shared-slice-read-if1
-    returns
+    mul-w
+    shared-slice-read-w
+    sub-wrapping-sub-u64
+    wrapping-sub-u64-requires
     add-i
     loop-less
     loop-again
-    returns-2)
+    returns)

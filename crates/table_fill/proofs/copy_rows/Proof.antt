@@ -1,13 +1,14 @@
 -- Row by row, each with multiplicity 0.
 use borrow.Author.Needs.{needs}
 use mathlib.Core.Path.{_≡_, refl, sym, _∙_}
-use Prim.Native.Nat.{_-_, _/_, _≤_}
-use lib.ListN.{length, length-set}
+use Prim.Native.Nat.{_+_, _-_, _*_, _/_, _≤_}
+use native.Mathlib.Omega.{arith}
+use lib.ListN.{length, set, length-set}
 use Rattle.table_fill.proofs.Filled.{rows-replaced}
 use Rattle.table_rows.specs.Rows.{rowAt}
 use Rattle.table_fill.specs.Fill.{filledRow}
-use Rattle.table_rows.specs.Writes.{withRows}
-use Rattle.table_rows.proofs.Rows.{length-row, replace-past, replace-next}
+use Rattle.table_rows.specs.Writes.{withRow, withRows}
+use Rattle.table_rows.proofs.Rows.{length-row, replace-past, replace-next, set-in-put}
 use Rattle.table_fill.proofs.copy_rows.Statement.{statement}
 use Rattle.table_fill.proofs.copy_rows.Tie as tie
 
@@ -20,17 +21,20 @@ abbrev μ-loop : tie.MeasureT-loop
 loop-holds : tie.Need-loop-holds Inv-loop μ-loop
 loop-holds c = (search needs, refl, refl)
 
-row-requires : tie.Need-row-requires Inv-loop μ-loop
-row-requires c κs = search needs
+copy-row-requires : tie.Need-copy-row-requires Inv-loop μ-loop
+copy-row-requires c κs = search needs
 
-mul-row : tie.Need-mul-row Inv-loop μ-loop
-mul-row c = search needs
+mul-table : tie.Need-mul-table Inv-loop μ-loop
+mul-table c = search needs
 
-array-write-row : tie.Need-array-write-row Inv-loop μ-loop
-array-write-row c = search needs
+add-table : tie.Need-add-table Inv-loop μ-loop
+add-table c = search needs
 
-put-row-requires : tie.Need-put-row-requires Inv-loop μ-loop
-put-row-requires c κs = search needs
+mul-table-2 : tie.Need-mul-table-2 Inv-loop μ-loop
+mul-table-2 c = search needs
+
+slice-write-table : tie.Need-slice-write-table Inv-loop μ-loop
+slice-write-table c = search needs
 
 add-c : tie.Need-add-c Inv-loop μ-loop
 add-c c = search needs
@@ -40,12 +44,16 @@ loop-less c = search needs
 
 loop-again : tie.Need-loop-again Inv-loop μ-loop
 loop-again c =
-    let in-loop = c .before .before .before .before .before in
+    let copied = c .before .before in
+    let in-loop = copied .before .before in
     let at-loop = in-loop .before in
     let trace = at-loop .before .before .before .args .trace .now in
+    let table = at-loop .loop .table in
     let k = at-loop .loop .c in
-    let e = length-set (rowAt trace k) 38 0 ∙ length-row trace k (search needs) in
-    (search needs, search needs, at-loop .loop .inv .2 ∙ replace-next 39 (at-loop .loop .table) (filledRow trace (λ c. 0)) k (length trace / 39) (c .before .before .put-row .last .0) (in-loop .loop-test .taken) (search needs) e (c .before .before .put-row .ensures ∙ rw (c .before .before .before .before .row .ensures)))
+    let len = length-row trace k (search needs) in
+    let put = copied .copy-row .last .1 .0 in
+    let e : set put (k * 39 + 38) 0 ≡ withRow 39 table k (filledRow trace (λ c. 0) k) = rw (copied .copy-row .ensures) (set-in-put 39 table k (rowAt trace k) 38 0 (search needs) (omega arith)) in
+    (search needs, length-set put (k * 39 + 38) 0 ∙ search needs, at-loop .loop .inv .2 ∙ replace-next 39 table (filledRow trace (λ c. 0)) k (length trace / 39) (set put (k * 39 + 38) 0) (in-loop .loop-test .taken) (search needs) (length-set (rowAt trace k) 38 0 ∙ len) e)
 
 same-length : tie.Need-same-length Inv-loop μ-loop
 same-length c = search needs
@@ -64,10 +72,11 @@ copy-rows-spec =
     Inv-loop
     μ-loop
     loop-holds
-    row-requires
-    mul-row
-    array-write-row
-    put-row-requires
+    copy-row-requires
+    mul-table
+    add-table
+    mul-table-2
+    slice-write-table
     add-c
     loop-less
     loop-again

@@ -1,28 +1,32 @@
--- Row by row from table_len on.
+-- The first padding row put, each other like the row above it.
 use borrow.Author.Needs.{needs}
-use mathlib.Core.Path.{_≡_, sym, _∙_}
-use Prim.Native.Nat.{_-_, _/_, _≤_}
-use lib.ListN.{length}
+use mathlib.Core.Path.{_≡_, refl, sym, _∙_}
+use mathlib.Core.List.{List}
+use Prim.Native.Nat.{ℕ, _+_, _-_, _/_, _≤_, _<_}
+use native.Mathlib.Omega.{arith}
+use lib.ListN.{length, length-set}
+use lib.Seq.{set-set}
 use Rattle.table_pad.specs.Pad.{paddingRow}
-use Rattle.table_rows.specs.Writes.{withRows}
-use Rattle.table_rows.proofs.Rows.{replace-past, replace-next}
+use Rattle.table_rows.specs.Rows.{rowAt}
+use Rattle.table_rows.specs.Writes.{withRow, withRows}
+use Rattle.table_rows.proofs.Rows.{length-row, replace-past, replace-next, row-of-put}
+use Rattle.table_pad.proofs.Padded.{like, first-padding, rest-like-first}
 use Rattle.table_pad.proofs.copy_down.Statement.{statement}
 use Rattle.table_pad.proofs.copy_down.Tie as tie
 
 abbrev Inv-loop : tie.InvT-loop
-Inv-loop table₀ table-len rows last c₀ table c = (c ≤ rows) × (length table ≡ length table₀) × (withRows 39 table₀ (paddingRow last) table-len (rows - table-len) ≡ withRows 39 table (paddingRow last) c (rows - c))
+Inv-loop table₀ table-len rows c₀ table c =
+    (table-len < c) × (c ≤ rows) × (length table ≡ length table₀) × (rowAt table (c - 1) ≡ like table₀ table-len (c - 1))
+    × (withRows 39 table₀ (like table₀ table-len) (table-len + 1) (rows - (table-len + 1)) ≡ withRows 39 table (like table₀ table-len) c (rows - c))
 
 abbrev μ-loop : tie.MeasureT-loop
-μ-loop table₀ table-len rows last c₀ table c = rows - c
+μ-loop table₀ table-len rows c₀ table c = rows - c
 
 sub-row : tie.Need-sub-row Inv-loop μ-loop
 sub-row c = search needs
 
 row-requires : tie.Need-row-requires Inv-loop μ-loop
 row-requires c κs = search needs
-
-loop-holds : tie.Need-loop-holds Inv-loop μ-loop
-loop-holds c = search needs
 
 padding-row-requires : tie.Need-padding-row-requires Inv-loop μ-loop
 padding-row-requires c κs = search needs
@@ -33,18 +37,39 @@ put-row-requires c κs = search needs
 add-c : tie.Need-add-c Inv-loop μ-loop
 add-c c = search needs
 
+loop-holds : tie.Need-loop-holds Inv-loop μ-loop
+loop-holds c =
+    let put = c .before .before in
+    let read = put .before .before .before in
+    let start = read .before .before .before .before in
+    let table = start .args .table .now in
+    let n = start .args .table-len in
+    let e : n + 1 - 1 ≡ n = omega arith in
+    (search needs, search needs, refl, rw e (first-padding table (put .put-row .last .0) (read .row .result) n (search needs) (search needs) (put .put-row .ensures ∙ rw (put .before .padding-row .ensures))), refl)
+
+repeat-row-requires : tie.Need-repeat-row-requires Inv-loop μ-loop
+repeat-row-requires c κs = search needs
+
+add-c-2 : tie.Need-add-c-2 Inv-loop μ-loop
+add-c-2 c = search needs
+
 loop-less : tie.Need-loop-less Inv-loop μ-loop
 loop-less c = search needs
 
 loop-again : tie.Need-loop-again Inv-loop μ-loop
 loop-again c =
-    let in-loop = c .before .before .before .before .before in
-    let table = in-loop .before .loop .table in
-    let last = in-loop .before .before .row .result in
-    let k = in-loop .before .loop .c in
-    let n = length (in-loop .before .before .before .before .before .args .table .now) / 39 in
-    let e : length (paddingRow last k) ≡ 39 = search needs in
-    (search needs, search needs, in-loop .before .loop .inv .2 ∙ replace-next 39 table (paddingRow last) k n (c .before .before .put-row .last .0) (in-loop .loop-test .taken) (search needs) e (c .before .before .put-row .ensures ∙ rw (c .before .before .before .padding-row .ensures)))
+    let repeated = c .before .before in
+    let in-loop = repeated .before .before in
+    let at-loop = in-loop .before in
+    let first = at-loop .before .before .before .put-row .last .0 in
+    let start = at-loop .before .before .before .before .before .before .before .before .before .before in
+    let n = start .args .table-len in
+    let table = at-loop .loop .table in
+    let k = at-loop .loop .c in
+    let e : k + 1 - 1 ≡ k = omega arith in
+    let len : length (like first n k) ≡ 39 = length-set (rowAt first n) 0 k ∙ length-row first n (search needs) in
+    let put : repeated .repeat-row .last .0 ≡ withRow 39 table k (like first n k) = repeated .repeat-row .ensures ∙ rw (at-loop .loop .inv .3, set-set) in
+    (search needs, search needs, search needs, rw (e, put) (row-of-put table k (like first n k) (search needs) len), at-loop .loop .inv .4 ∙ replace-next 39 table (like first n) k (length (start .args .table .now) / 39) (repeated .repeat-row .last .0) (in-loop .loop-test .taken) (search needs) len put)
 
 same-length : tie.Need-same-length Inv-loop μ-loop
 same-length c = search needs
@@ -52,8 +77,23 @@ same-length c = search needs
 returns : tie.Need-returns Inv-loop μ-loop
 returns c =
     let at-loop = c .before in
-    let n = length (at-loop .before .before .before .before .args .table .now) / 39 in
-    sym (rw (sym (at-loop .before .row .ensures)) (at-loop .loop .inv .2 ∙ replace-past 39 (at-loop .loop .table) (paddingRow (at-loop .before .row .result)) (at-loop .loop .c) n (c .loop-test .left)))
+    let put = at-loop .before .before .before in
+    let read = put .before .before .before in
+    let start = read .before .before .before .before in
+    let table = start .args .table .now in
+    let n = start .args .table-len in
+    let first = put .put-row .last .0 in
+    let rows = length table / 39 in
+    sym
+    (rw (sym (read .row .ensures))
+    (rest-like-first table first (read .row .result) n (search needs) (search needs) (put .put-row .ensures ∙ rw (put .before .padding-row .ensures)) rows (search needs)
+    ∙ at-loop .loop .inv .4
+    ∙ replace-past 39 (at-loop .loop .table) (like first n) (at-loop .loop .c) rows (c .loop-test .left)))
+
+returns-2 : tie.Need-returns-2 Inv-loop μ-loop
+returns-2 c =
+    let args = c .before .before .args in
+    sym (replace-past 39 (args .table .now) (paddingRow (rowAt (args .table .now) (args .table-len - 1))) (args .table-len) (length (args .table .now) / 39) (c .if1 .left))
 
 pub copy-down-spec : {M : Type 1} → statement M
 copy-down-spec =
@@ -63,11 +103,14 @@ copy-down-spec =
     μ-loop
     sub-row
     row-requires
-    loop-holds
     padding-row-requires
     put-row-requires
     add-c
+    loop-holds
+    repeat-row-requires
+    add-c-2
     loop-less
     loop-again
     same-length
-    returns)
+    returns
+    returns-2)

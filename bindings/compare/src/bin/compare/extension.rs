@@ -1,6 +1,7 @@
 //! Extension, and strict extension on the same calls.
 
-use compare::extensions::{report, tallies, Tallies, EXTENSIONS, STRICT};
+use compare::extensions::{any_chunk, count, count_strict, other_work, refusal, report, tallies};
+use compare::extensions::{Tallies, CHUNKS, EXTENSIONS, STRICT, WORKS};
 use compare::plain::batched::extend_batched;
 use compare::plain::extension::{by_row, column::*, extend_plain, opcode, undecodable, Challenges, Kind, AUX_WIDTH, COLUMNS, WIDTH};
 use compare::plain::{self, Element};
@@ -8,7 +9,7 @@ use compare::random::Random;
 use compare::rows::{mend, spoil};
 use compare::tally::Tally;
 use tealbobbin::field::P;
-use tealbobbin::processor::{MAX_ROWS, WORK_WIDTH};
+use tealbobbin::processor::{work_len, MAX_ROWS, WORK_WIDTH};
 
 const RECORD: usize = tealbobbin::challenges::Challenges::WORDS;
 const INSTRUCTION: usize = 2;
@@ -19,13 +20,13 @@ const CLOCK: usize = 10;
 const KINDS: [&str; 6] =
     ["row 0 alone undecodable", "the last row alone", "padding alone", "2 before 11", "11 before 6", "2 before 11 and 6"];
 
-/// A main table and challenges, and the lengths of the slices for columns and work.
+/// A main table and challenges, and the lengths of the slices for columns and work, of that only where it is not to be the right one.
 #[derive(Clone)]
 struct Case {
     main: Vec<u64>,
     challenges: Vec<u64>,
     aux: usize,
-    work: usize,
+    work: Option<usize>,
 }
 
 fn any_words(random: &mut Random, n: usize) -> Vec<u64> {
@@ -121,7 +122,7 @@ pub fn challenges(random: &mut Random) -> Vec<u64> {
 impl Case {
     fn new(main: Vec<u64>, challenges: Vec<u64>) -> Case {
         let rows = main.len() / WIDTH;
-        Case { main, challenges, aux: rows * AUX_WIDTH, work: rows * WORK_WIDTH }
+        Case { main, challenges, aux: rows * AUX_WIDTH, work: None }
     }
 
     fn random(random: &mut Random, rows: usize) -> Case {
@@ -161,6 +162,12 @@ impl Case {
         }
     }
 
+    /// Makes the denominator of row 0's clock zero.
+    fn vanish(&mut self) {
+        (self.main[CLK], self.main[MULTIPLICITY]) = (7, 1);
+        self.aim(CLOCK, [7, 0, 0]);
+    }
+
     /// The cells, if there are any: plainly and batched, or only batched where the table is tall.
     fn cells(&self, tally: &mut Tally, random: &mut Random) -> Option<Vec<u64>> {
         let mut aux = any_words(random, self.aux);
@@ -179,42 +186,32 @@ impl Case {
     /// Every number and every lent slice, at each chunk length; answers the last numbers that were expected.
     fn check(&self, tallies: &mut Tallies, random: &mut Random, chunks: &[usize]) -> [u32; 2] {
         let rows = self.rows();
-        let whole = self.main.len() % WIDTH == 0 && self.challenges.len() == RECORD;
-        let lengths = whole && self.aux == rows * AUX_WIDTH && self.work == rows * WORK_WIDTH;
-        let counted = rows > 0 && rows <= MAX_ROWS;
-        let below = self.main.iter().chain(&self.challenges).all(|&w| w < P);
+        let refused = |chunk, work| refusal(&self.main, &self.challenges, chunk, self.aux, work);
         let undecodable = undecodable(&self.main);
-        let cells = if lengths && counted && below { self.cells(&mut tallies[0], random) } else { None };
+        let cells = if refused(1, work_len(rows, 1)) == 0 { self.cells(&mut tallies[0], random) } else { None };
         let mut numbers = [0; 2];
         for &chunk in chunks {
-            let number = |strict: bool| {
-                if !lengths {
-                    1
-                } else if !counted {
-                    3
-                } else if chunk == 0 {
-                    5
-                } else if !below {
-                    2
-                } else if strict && !undecodable.is_empty() {
-                    11
-                } else if cells.is_none() {
-                    6
-                } else {
-                    0
-                }
+            let answers = |work| {
+                [false, true].map(|strict| match refused(chunk, work) {
+                    0 if strict && !undecodable.is_empty() => 11,
+                    0 if cells.is_none() => 6,
+                    number => number,
+                })
             };
-            numbers = [number(false), number(true)];
+            let right = work_len(rows, chunk);
+            let length = self.work.unwrap_or(right);
+            numbers = answers(length);
             if numbers[STRICT] == 11 {
-                self.count_places(&mut tallies[STRICT], &undecodable);
+                self.count_places(tallies, &undecodable);
             }
             for (k, (name, extend)) in EXTENSIONS.into_iter().enumerate() {
-                let (mut aux, mut work) = (any_words(random, self.aux), any_words(random, self.work));
+                count(&mut tallies[k], rows, chunk, length, numbers[k], answers(right)[k]);
+                let (mut aux, mut work) = (any_words(random, self.aux), any_words(random, length));
                 let lent = |aux: &[u64], work: &[u64]| [aux, work, &self.main, &self.challenges].concat();
                 let before = lent(&aux, &work);
-                let expected = cells.as_ref().map_or(vec![], |cells| lent(cells, &vec![0; self.work]));
+                let expected = cells.as_ref().map_or(vec![], |cells| lent(cells, &vec![0; length]));
                 let got = extend(&self.main, &self.challenges, chunk, &mut aux, &mut work);
-                let shape = [self.main.len(), self.challenges.len(), chunk, self.aux, self.work].map(|n| n as u64);
+                let shape = [self.main.len(), self.challenges.len(), chunk, self.aux, length].map(|n| n as u64);
                 tallies[k].check(name, &shape, &before, (got, &lent(&aux, &work)), numbers[k], &expected);
             }
         }
@@ -222,12 +219,12 @@ impl Case {
     }
 
     /// Counts the kinds of a table by the rows of it that do not decode.
-    fn count_places(&self, tally: &mut Tally, undecodable: &[usize]) {
+    fn count_places(&self, tallies: &mut Tallies, undecodable: &[usize]) {
         let rows = self.rows();
         let padding = undecodable.iter().all(|r| self.main[r * WIDTH + IS_PADDING] == 1);
         for (kind, met) in [undecodable == [0] && rows > 1, undecodable == [rows - 1] && rows > 1, padding].into_iter().enumerate() {
             if met {
-                tally.count(kind);
+                count_strict(tallies, kind);
             }
         }
     }
@@ -241,7 +238,7 @@ impl Case {
     }
 }
 
-/// Each slice longer and shorter by a word and by a row, empty, and of the length for a row more or less.
+/// Each slice longer and shorter by a word and by a row, empty, and of the length for a row or chunk more or less.
 fn lengths(tallies: &mut Tallies, random: &mut Random) {
     for rows in [0, 1, 2, 5] {
         let whole = Case::sound(random, rows);
@@ -262,9 +259,31 @@ fn lengths(tallies: &mut Tallies, random: &mut Random) {
                     case.aux = changed(whole.aux);
                 }
                 if slices & 8 != 0 {
-                    case.work = changed(whole.work);
+                    case.work = Some(changed(work_len(rows, 2)));
                 }
                 case.check(tallies, random, &[2, 0]);
+            }
+        }
+    }
+}
+
+/// Every chunk length with the right length of work and with wrong ones, over tables that are extended and that are refused later.
+fn works(tallies: &mut Tallies, random: &mut Random) {
+    for rows in (1..=12).chain([50, 300]) {
+        let mut sound = Case::sound(random, rows);
+        mend(random, &mut sound.main);
+        let [mut bad, mut spoiled, mut zero] = [(); 3].map(|()| sound.clone());
+        bad.main[random.word() as usize % (rows * WIDTH)] = P + random.word() % 3;
+        spoil_some(random, &mut spoiled.main);
+        zero.vanish();
+        for mut case in [sound, bad, spoiled, zero] {
+            case.check(tallies, random, &CHUNKS.map(|(_, chunk)| chunk(rows)));
+            for (_, chunk) in CHUNKS {
+                let chunk = chunk(rows);
+                for (_, work) in WORKS {
+                    case.work = Some(work(rows, chunk));
+                    case.check(tallies, random, &[chunk, 0]);
+                }
             }
         }
     }
@@ -289,8 +308,8 @@ fn bad_words(tallies: &mut Tallies, random: &mut Random) {
 
 /// Each set of faults: the first of them in order is answered.
 fn several_faults(tallies: &mut Tallies, random: &mut Random) {
-    for round in 0..6400 {
-        let [length, no_rows, no_chunk, bad, spoiled, zero]: [bool; 6] = std::array::from_fn(|k| round >> k & 1 == 1);
+    for round in 0..12_800 {
+        let [length, no_rows, no_chunk, work, bad, spoiled, zero]: [bool; 7] = std::array::from_fn(|k| round >> k & 1 == 1);
         let mut case = Case::sound(random, if no_rows { 0 } else { 1 + round % 5 });
         mend(random, &mut case.main);
         if spoiled && !no_rows {
@@ -298,34 +317,34 @@ fn several_faults(tallies: &mut Tallies, random: &mut Random) {
             spoil(random, &mut case.main[row * WIDTH..][..WIDTH]);
         }
         if zero && !no_rows {
-            case.main[CLK] = 7;
-            case.main[MULTIPLICITY] = 1;
-            case.aim(CLOCK, [7, 0, 0]);
+            case.vanish();
         }
         if bad {
             let words = if no_rows || random.word() % 2 == 0 { &mut case.challenges } else { &mut case.main };
             let place = random.word() as usize % words.len();
             words[place] = P + random.word() % 3;
         }
+        let chunk = if no_chunk { 0 } else { 1 + random.word() as usize % 7 };
+        if work {
+            case.work = Some(work_len(case.rows(), chunk) + 1 + random.word() as usize % 12);
+        }
         if length {
-            match random.word() % 4 {
+            match random.word() % 3 {
                 0 => case.main.push(0),
                 1 => drop(case.challenges.pop()),
-                2 => case.aux += AUX_WIDTH,
-                _ => case.work += 1,
+                _ => case.aux += AUX_WIDTH,
             }
         }
-        let chunk = if no_chunk { 0 } else { 1 + random.word() as usize % 7 };
         let first = |strict: bool| {
-            let faults = [(length, 1), (no_rows, 3), (no_chunk, 5), (bad, 2), (spoiled && strict, 11), (zero, 6)];
+            let faults = [(length, 1), (no_rows, 3), (no_chunk, 5), (work, 1), (bad, 2), (spoiled && strict, 11), (zero, 6)];
             faults.into_iter().find(|fault| fault.0).map_or(0, |fault| fault.1)
         };
         let (meant, due) = (case.check(tallies, random, &[chunk]), [first(false), first(true)]);
         if meant != due {
             tallies[STRICT].differ(format!("extend, {} rows: a case for {due:?} is one for {meant:?}", case.rows()));
         }
-        if spoiled && !(length || no_rows || no_chunk) && (bad || zero) {
-            tallies[STRICT].count(2 + bad as usize + 2 * zero as usize);
+        if spoiled && !(length || no_rows || no_chunk || work) && (bad || zero) {
+            count_strict(tallies, 2 + bad as usize + 2 * zero as usize);
         }
     }
 }
@@ -370,19 +389,31 @@ fn zero_denominators(tallies: &mut Tallies, random: &mut Random) {
     }
 }
 
-/// The largest number of rows and one more, over zeros that are to stay zeros, with CI of the last row not below p or no opcode.
+/// The largest number of rows and one more, over zeros that are to stay zeros, with CI of the last row not below p or no opcode, and
+/// this many words of work.
 fn long(tallies: &mut Tallies) {
-    for (rows, chunk, ci, number) in
-        [(MAX_ROWS, 0, 0, 5), (MAX_ROWS, 4096, P, 2), (MAX_ROWS + 1, 4096, 0, 3), (MAX_ROWS + 1, 0, P, 3), (MAX_ROWS, 4096, 5, 11)]
-    {
-        let mut main = vec![0; rows * WIDTH];
+    let [mut main, mut aux, mut work] = [WIDTH, AUX_WIDTH, WORK_WIDTH].map(|width| vec![0; (MAX_ROWS + 1) * width]);
+    for (rows, chunk, words, ci, number) in [
+        (MAX_ROWS, 0, 0, 0, 5),
+        (MAX_ROWS, 1, 6 * MAX_ROWS, P, 2),
+        (MAX_ROWS, 4096, 6 * 1024, P, 2),
+        (MAX_ROWS, 4096, 6 * MAX_ROWS, P, 1),
+        (MAX_ROWS, 4095, 6 * 1025, P, 2),
+        (MAX_ROWS, 4095, 6 * 1024, P, 1),
+        (MAX_ROWS, usize::MAX, 6, P, 2),
+        (MAX_ROWS, usize::MAX, 0, P, 1),
+        (MAX_ROWS + 1, 4096, 6 * 1025, 0, 3),
+        (MAX_ROWS + 1, 0, 0, P, 3),
+        (MAX_ROWS, 4096, 6 * 1024, 5, 11),
+    ] {
+        let (main, aux, work) = (&mut main[..rows * WIDTH], &mut aux[..rows * AUX_WIDTH], &mut work[..words]);
         main[(rows - 1) * WIDTH + CI] = ci;
-        let (mut aux, mut work) = (vec![0; rows * AUX_WIDTH], vec![0; rows * WORK_WIDTH]);
         for (k, (name, extend)) in EXTENSIONS.into_iter().enumerate().skip(if number == 11 { STRICT } else { 0 }) {
-            let got = extend(&main, &[2; RECORD], chunk, &mut aux, &mut work);
-            let written = aux.iter().chain(&work).filter(|&&w| w != 0).count() as u64;
+            let got = extend(main, &[2; RECORD], chunk, aux, work);
+            let written = aux.iter().chain(&*work).filter(|&&w| w != 0).count() as u64;
             tallies[k].check(name, &[rows as u64, chunk as u64], &[0], (got, &[written]), number, &[0]);
         }
+        main[(rows - 1) * WIDTH + CI] = 0;
     }
 }
 
@@ -404,7 +435,8 @@ pub fn compare(random: &mut Random, count: u64) -> bool {
         if (INSTRUCTION..COLUMNS.len()).contains(&column) {
             case.aim_at_an_entry(random, column);
         }
-        let chunks = [1 + random.word() as usize % (rows + 2), [1, 2, 3, rows, usize::MAX][random.word() as usize % 5]];
+        let chunks = [(); 2].map(|()| any_chunk(random, rows));
+        case.work = other_work(random, rows, chunks[0]);
         case.check(&mut tallies, random, &chunks);
     }
     for (rows, chunk) in [(1_000, 1), (1_000, 999), (5_000, 1_024), (20_000, 4_096), (20_000, usize::MAX)] {
@@ -415,6 +447,7 @@ pub fn compare(random: &mut Random, count: u64) -> bool {
         case.check(&mut tallies, random, &[chunk]);
     }
     lengths(&mut tallies, random);
+    works(&mut tallies, random);
     bad_words(&mut tallies, random);
     several_faults(&mut tallies, random);
     zero_denominators(&mut tallies, random);

@@ -1,20 +1,14 @@
 //! Extension, with the original's panics as refusals; and strict extension on the same calls.
 
-use compare::extensions::{EXTENSIONS, STRICT, Tallies, report, tallies};
+use compare::extensions::{CHUNKS, EXTENSIONS, STRICT, Tallies, WORKS};
+use compare::extensions::{any_chunk, count, count_strict, other_work, refusal, report, tallies};
 use compare::plain::extension::COLUMNS;
 use compare::plain::extension::column::{CI, NIA};
 use compare::random::Random;
 use oracle::MAIN_WIDTH as WIDTH;
 use oracle::rows::{ARGUMENTS, OPCODES, OTHERS, REALISTIC, WORST, any_row, any_table, challenges, mixed, row, symbols};
 use tealbobbin::field::P;
-use tealbobbin::processor::MAX_ROWS;
-
-/// A chunk length: small, around the number of items, any, larger than all.
-pub fn chunk(random: &mut Random, items: usize) -> usize {
-    let any = random.word() as usize;
-    let around = [1, 2, 3, 4, items.max(2) - 1, items.max(1), items + 1, any % (items + 2) + 1, 1024, usize::MAX];
-    around[any % around.len()]
-}
+use tealbobbin::processor::work_len;
 
 struct Case<'a> {
     main: &'a [u64],
@@ -29,43 +23,34 @@ fn case<'a>(main: &'a [u64], challenges: &'a [u64], chunk: usize, aux: usize, wo
 }
 
 impl Case<'_> {
-    /// The refusals that the original knows nothing of, and that of no rows.
-    fn refusal(&self) -> u32 {
-        let rows = self.main.len() / WIDTH;
-        if self.main.len() % WIDTH != 0 || self.aux != 33 * rows || self.challenges.len() != 189 || self.work != 6 * rows {
-            1
-        } else if rows == 0 || rows > MAX_ROWS {
-            3
-        } else if self.chunk == 0 {
-            5
-        } else if self.main.iter().chain(self.challenges).any(|&word| word >= P) {
-            2
-        } else {
-            0
-        }
-    }
-
     fn check(&self, tallies: &mut Tallies, random: &mut Random) {
-        let (mut number, mut strict, mut expected) = (self.refusal(), self.refusal(), vec![]);
-        if number == 0 {
+        let rows = self.main.len() / WIDTH;
+        let refused = |work| refusal(self.main, self.challenges, self.chunk, self.aux, work);
+        // the answers with work of the right length
+        let (mut right, mut expected) = ([refused(work_len(rows, self.chunk)); 2], vec![]);
+        if right == [0; 2] {
             match oracle::extend(self.main, self.challenges) {
                 Ok(aux) => expected = [aux, vec![0; self.work]].concat(),
-                Err(_) => number = 6,
+                Err(_) => right = [6; 2],
             }
-            strict = number;
             if !self.main.chunks_exact(WIDTH).all(|row| oracle::decode(row[CI], row[NIA])[0] == 1) {
-                strict = 11;
-                tallies[STRICT].count(if number == 0 { 0 } else { 1 });
+                right[STRICT] = 11;
             }
         }
-        for ((tally, (name, extend)), number) in tallies.iter_mut().zip(EXTENSIONS).zip([number, strict]) {
+        let numbers = if refused(self.work) == 0 { right } else { [refused(self.work); 2] };
+        if numbers[STRICT] == 11 {
+            count_strict(tallies, if numbers[0] == 0 { 0 } else { 1 });
+        }
+        for (k, (tally, (name, extend))) in tallies.iter_mut().zip(EXTENSIONS).enumerate() {
+            let number = numbers[k];
+            count(tally, rows, self.chunk, self.work, number, right[k]);
             let before: Vec<u64> = (0..self.aux + self.work).map(|_| random.any()).collect();
             let mut after = before.clone();
             let (aux, work) = after.split_at_mut(self.aux);
             let got = extend(self.main, self.challenges, self.chunk, aux, work);
             tally.check(name, &[self.main.len() as u64, self.chunk as u64], &before, (got, &after), number, &expected);
             if number == 0 {
-                tally.rows += (self.main.len() / WIDTH) as u64;
+                tally.rows += rows as u64;
             }
         }
     }
@@ -73,8 +58,9 @@ impl Case<'_> {
 
 fn check(tallies: &mut Tallies, random: &mut Random, main: &[u64], challenges: &[u64]) {
     let rows = main.len() / WIDTH;
-    let chunk = chunk(random, rows);
-    case(main, challenges, chunk, 33 * rows, 6 * rows).check(tallies, random);
+    let chunk = any_chunk(random, rows);
+    let work = other_work(random, rows, chunk).unwrap_or(work_len(rows, chunk));
+    case(main, challenges, chunk, 33 * rows, work).check(tallies, random);
 }
 
 fn any_check(tallies: &mut Tallies, random: &mut Random, main: &[u64]) {
@@ -132,6 +118,17 @@ fn zeros(tallies: &mut Tallies, random: &mut Random) {
     check(tallies, random, &main, &challenges);
 }
 
+/// One table at every chunk length, with the right length of work and with wrong ones.
+fn chunks(tallies: &mut Tallies, random: &mut Random, rows: usize) {
+    let (main, challenges) = (any_table(random, rows), challenges(random));
+    for chunk in CHUNKS.map(|(_, chunk)| chunk(rows)) {
+        case(&main, &challenges, chunk, 33 * rows, work_len(rows, chunk)).check(tallies, random);
+        for (_, work) in WORKS {
+            case(&main, &challenges, chunk, 33 * rows, work(rows, chunk)).check(tallies, random);
+        }
+    }
+}
+
 /// Lengths of slices, heights, chunk lengths and words that are refused.
 fn refusals(tallies: &mut Tallies, random: &mut Random) {
     let challenges = challenges(random);
@@ -148,26 +145,29 @@ fn refusals(tallies: &mut Tallies, random: &mut Random) {
         case(&main, &challenges, 1, aux, 18).check(tallies, random);
     }
     for work in (0..25).chain([36]) {
-        case(&main, &challenges, 1, 99, work).check(tallies, random);
+        for chunk in [0, 1, 2, 3, usize::MAX] {
+            case(&main, &challenges, chunk, 99, work).check(tallies, random);
+        }
     }
-    case(&main, &challenges, 0, 99, 18).check(tallies, random);
     case(&[], &challenges, 0, 0, 0).check(tallies, random);
     for bad in [P, u64::MAX] {
         for place in 0..main.len() {
             let mut main = main.clone();
             main[place] = bad;
             case(&main, &challenges, place % 2, 99, 18).check(tallies, random);
+            case(&main, &challenges, 2, 99, 6 * (place % 4)).check(tallies, random);
         }
         for place in 0..189 {
             let mut challenges = challenges.clone();
             challenges[place] = bad;
             case(&main, &challenges, place % 2, 99, 18).check(tallies, random);
+            case(&main, &challenges, 2, 99, 6 * (place % 4)).check(tallies, random);
         }
     }
 }
 
-/// Windows of every kind, tables of 1 to 256 rows, tall ones around the original's own chunks and up to 2^16, zero
-/// denominators and refusals.
+/// Windows of every kind, tables of 1 to 256 rows, tall ones around the original's own chunks and up to 2^16, all chunk lengths on
+/// one table, zero denominators and refusals.
 pub fn compare(random: &mut Random, count: u64, rows_compared: &mut u64) -> bool {
     let mut tallies = tallies(&["11 where the original extends", "11 where it panics"]);
     if oracle::extend(&[], &challenges(random)).is_ok() {
@@ -177,6 +177,10 @@ pub fn compare(random: &mut Random, count: u64, rows_compared: &mut u64) -> bool
         windows(&mut tallies, random);
         pairs(&mut tallies, random);
         refusals(&mut tallies, random);
+        for most in [8, 64, 512] {
+            let rows = random.word() as usize % most + 1;
+            chunks(&mut tallies, random, rows);
+        }
         let rows = random.word() as usize % (1 << 16) + 1;
         let main = any_table(random, rows);
         any_check(&mut tallies, random, &main);

@@ -1,10 +1,10 @@
 //! The scans.
 
+use compare::extensions::any_chunk;
 use compare::random::Random;
 use compare::tally::Tally;
 use tealbobbin::abi;
 
-use crate::extension::chunk;
 use crate::words;
 
 type Scan = (&'static str, usize, fn(&mut [u64], usize) -> u32, fn(&[u64]) -> Vec<u64>);
@@ -23,7 +23,7 @@ pub fn compare(random: &mut Random, count: u64) -> bool {
         let short = (0..count).map(|i| i as usize % 300);
         for items in short.chain(tall) {
             let before = words(random, items * width);
-            let chunk = chunk(random, items);
+            let chunk = any_chunk(random, items);
             let mut after = before.clone();
             let got = scan(&mut after, chunk);
             tally.check(name, &[items as u64, chunk as u64], &before, (got, &after), 0, &original(&before));

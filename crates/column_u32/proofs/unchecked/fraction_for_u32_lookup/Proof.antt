@@ -3,7 +3,7 @@ use borrow.Author.Needs.{needs}
 use mathlib.Core.List.{[]}
 use lib.ListN.{getD}
 use Rattle.field_base.proofs.Below.{word-below}
-use Rattle.column_u32.proofs.U32.{split, with-result, xor, one-operand, div-mod, merkle, none}
+use Rattle.column_u32.proofs.U32.{split, with-result, xor, one-operand, div-mod, merkle, none, no-entries, together}
 use Rattle.column_u32.proofs.unchecked.fraction_for_u32_lookup.Statement.{statement}
 use Rattle.column_u32.proofs.unchecked.fraction_for_u32_lookup.Tie as tie
 
@@ -142,8 +142,8 @@ returns-6 c =
 returns-7 : tie.Need-returns-7
 returns-7 c =
     let rest = c .match .rest in
-    none _ _ _ _ (c .before .before .before .before .before .before .before .before .before .before .before .before .before .word-at .ensures)
-    (rest .0 .0 .0 .0 .0 .1) (rest .0 .0 .0 .0 .1) (rest .0 .0 .0 .1) (rest .0 .0 .1) (rest .0 .1) (rest .1)
+    let read = c .before .before .before .before .before .before .before .before .before .before .before .before .before .word-at .ensures in
+    none _ _ _ _ read (no-entries _ _ _ read (together (rest .0 .0 .0 .0 .0 .1) (rest .0 .0 .0 .0 .1) (rest .0 .0 .0 .1) (rest .0 .0 .1) (rest .0 .1) (rest .1)))
 
 pub fraction-for-u32-lookup-spec : {M : Type 1} → statement M
 fraction-for-u32-lookup-spec =

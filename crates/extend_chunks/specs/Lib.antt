@@ -1,0 +1,2 @@
+-- The chunks of a table.
+pub mod Chunks
