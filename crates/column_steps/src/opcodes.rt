@@ -1,16 +1,12 @@
 // CI decides whether a window may bring a column an entry.
 ghost use mathlib.Core.Path.{_≡_};
-ghost use Rattle.column_steps.specs.Opcodes.{isReadIo, isWriteIo, isHashing, isSponge, isRamAccess};
+ghost use Rattle.column_steps.specs.Opcodes.{isReadIo, isWriteIo, isSponge, isRamAccess};
 
 const WRITE_MEM: u64 = 11;
-
-const HASH: u64 = 18;
 
 const WRITE_IO: u64 = 19;
 
 const SPONGE_ABSORB: u64 = 34;
-
-const MERKLE_STEP: u64 = 36;
 
 const SPONGE_INIT: u64 = 40;
 
@@ -38,12 +34,6 @@ pub fn is_write_io(ci: u64) -> bool
     ensures { λ r. ⌜ r ≡ isWriteIo ci ⌝ }
 {
     ci == WRITE_IO
-}
-
-pub fn is_hashing(ci: u64) -> bool
-    ensures { λ r. ⌜ r ≡ isHashing ci ⌝ }
-{
-    (ci == HASH) | (ci == MERKLE_STEP) | (ci == MERKLE_STEP_MEM)
 }
 
 pub fn is_sponge(ci: u64) -> bool
