@@ -25,9 +25,9 @@ extern "C" {
 
 /* The Rust crate's Cargo.toml has the same version. */
 #define TEALBOBBIN_VERSION_MAJOR 0
-#define TEALBOBBIN_VERSION_MINOR 6
+#define TEALBOBBIN_VERSION_MINOR 7
 #define TEALBOBBIN_VERSION_PATCH 0
-#define TEALBOBBIN_VERSION "0.6.0"
+#define TEALBOBBIN_VERSION "0.7.0"
 
 enum tealbobbin_refusal {
     TEALBOBBIN_DONE = 0,                  /* none */
@@ -347,6 +347,34 @@ uint32_t tealbobbin_extend(const uint64_t *main, size_t main_count, const uint64
  */
 uint32_t tealbobbin_extend_strict(const uint64_t *main, size_t main_count, const uint64_t *challenges, size_t challenges_count,
                                   size_t chunk, uint64_t *aux, size_t aux_count, uint64_t *work, size_t work_count);
+
+/* What a check finds: the first word that it writes. */
+enum tealbobbin_verdict {
+    TEALBOBBIN_NO = 0,
+    TEALBOBBIN_YES = 1
+};
+
+/*
+ * Checks `offered`, columns made elsewhere, 33 words a row: whether tealbobbin_extend, over the same `main` and `challenges`, would
+ * be done and write just these, at any chunk length. Into `verdict`, 1 word: TEALBOBBIN_YES or TEALBOBBIN_NO. Nothing is inverted.
+ *
+ * 1: `main` is not whole rows, `offered` not 33 words for each, or `challenges` or `verdict` has another length.
+ * 3: `main` has no row or is long in rows.
+ * 2: a word of `main`, `challenges` or `offered` is not below p.
+ * 6: as tealbobbin_extend, whatever the offered columns hold.
+ */
+uint32_t tealbobbin_check(const uint64_t *main, size_t main_count, const uint64_t *challenges, size_t challenges_count,
+                          const uint64_t *offered, size_t offered_count, uint64_t *verdict, size_t verdict_count);
+
+/*
+ * Checks as tealbobbin_check does, and says where a no stands. Into `verdict`, 3 words: TEALBOBBIN_YES, 0 and 0; or TEALBOBBIN_NO,
+ * the first row, and in it the first column, by enum tealbobbin_aux_column, whose cell does not follow, by the row's entries, from
+ * the column's cell in the row before; before row 0 that is 1, or 0 in the instruction, U32 and clock columns.
+ *
+ * 1, 3, 2, 6: as tealbobbin_check.
+ */
+uint32_t tealbobbin_check_at(const uint64_t *main, size_t main_count, const uint64_t *challenges, size_t challenges_count,
+                             const uint64_t *offered, size_t offered_count, uint64_t *verdict, size_t verdict_count);
 
 /*
  * Opens a batch of at most 16384 bytes; docs/BATCH.md has the format. Into the slices go, from their start on, `trace` (1248

@@ -544,19 +544,31 @@ static uint64_t *lend_record(uint64_t word)
     return record;
 }
 
+/* A row of zeros, and the padding row that follows it. */
+static uint64_t *lend_zeros_padded(void)
+{
+    uint64_t *table = lend_zeros(MAIN + 1);
+    table[ROW + CLK] = table[ROW + TEALBOBBIN_MAIN_IS_PADDING] = table[ROW + MULTIPLICITY] = 1;
+    return table;
+}
+
+/* Their columns under challenges 2. */
+static void put_columns(uint64_t *aux)
+{
+    static const uint64_t cells[] = {1, 1, HALF, 1, 1, 2, 1, 1, 1, 0, 0, 1, 1, HALF, 1, 1, 0, 1, 1, 1, 0, 1};
+    for (size_t i = 0; i < AUX; i++)
+        aux[i] = i % ELEMENT ? 0 : cells[i / ELEMENT];
+}
+
 typedef uint32_t extension(const uint64_t *, size_t, const uint64_t *, size_t, size_t, uint64_t *, size_t, uint64_t *, size_t);
 
 /* Of tables whose rows decode. */
 static void of_a_table(extension *call)
 {
-    uint64_t *table = lend_zeros(MAIN + 1), *record = lend_record(2), *aux = lend(AUX + 1), *work = lend(2 * WORK + 1);
-
-    /* a row of zeros, and the padding row that follows it */
-    static const uint64_t cells[] = {1, 1, HALF, 1, 1, 2, 1, 1, 1, 0, 0, 1, 1, HALF, 1, 1, 0, 1, 1, 1, 0, 1}, zeros[2 * WORK];
+    uint64_t *table = lend_zeros_padded(), *record = lend_record(2), *aux = lend(AUX + 1), *work = lend(2 * WORK + 1);
+    static const uint64_t zeros[2 * WORK];
     uint64_t due[AUX];
-    for (size_t i = 0; i < AUX; i++)
-        due[i] = i % ELEMENT ? 0 : cells[i / ELEMENT];
-    table[ROW + CLK] = table[ROW + TEALBOBBIN_MAIN_IS_PADDING] = table[ROW + MULTIPLICITY] = 1;
+    put_columns(due);
     for (size_t c = 0; c < COUNT(chunks); c++) {
         size_t work_count = chunks[c] == 1 ? 2 * WORK : WORK;
         make_stale(aux, AUX);
@@ -636,26 +648,42 @@ static void scatter(uint64_t *words, size_t count)
         words[i] = (i + 1) * UINT64_C(0x9e3779b97f4a7c15) % P;
 }
 
+/* Nine rows, and challenges, that bring entries to most columns. */
+enum { TALL = 9, TALL_MAIN = TALL * ROW, TALL_AUX = TALL * TEALBOBBIN_AUX_WORDS };
+
+static uint64_t *lend_tall(void)
+{
+    static const uint64_t opcodes[TALL] = {73, 33, 19, 4, 20, 57, 18, 1, 0};
+    uint64_t *table = lend(TALL_MAIN);
+    scatter(table, TALL_MAIN);
+    for (size_t r = 0; r < TALL; r++) {
+        table[r * ROW + CI] = opcodes[r];
+        table[r * ROW + NIA] = 1 + r % 5;
+        table[r * ROW + TEALBOBBIN_MAIN_IS_PADDING] = r == TALL - 1;
+    }
+    return table;
+}
+
+static uint64_t *lend_scattered_record(void)
+{
+    uint64_t *record = lend(RECORD);
+    scatter(record, RECORD);
+    return record;
+}
+
 /* Nine rows by chunks of each length, with the chunks that are started: work is six words for each, and no other length will do. */
 static void of_work(extension *call)
 {
-    enum { ROWS = 9, TALL_MAIN = ROWS * ROW, TALL_AUX = ROWS * TEALBOBBIN_AUX_WORDS, MOST = ROWS * TEALBOBBIN_WORK_WORDS };
+    enum { MOST = TALL * TEALBOBBIN_WORK_WORDS };
     static const struct {
         size_t chunk, started;
     } divisions[] = {{1, 9}, {2, 5}, {3, 3}, {4, 3}, {5, 2}, {7, 2}, {8, 2}, {9, 1}, {10, 1}, {1000, 1}, {SIZE_MAX, 1}};
-    static const uint64_t opcodes[ROWS] = {73, 33, 19, 4, 20, 57, 18, 1, 0}, zeros[MOST];
-    uint64_t *table = lend(TALL_MAIN), *record = lend(RECORD), *aux = lend(TALL_AUX + 1), *work = lend(MOST + 13);
+    static const uint64_t zeros[MOST];
+    uint64_t *table = lend_tall(), *record = lend_scattered_record(), *aux = lend(TALL_AUX + 1), *work = lend(MOST + 13);
     uint64_t cells[TALL_AUX];
-    scatter(table, TALL_MAIN);
-    scatter(record, RECORD);
-    for (size_t r = 0; r < ROWS; r++) {
-        table[r * ROW + CI] = opcodes[r];
-        table[r * ROW + NIA] = 1 + r % 5;
-        table[r * ROW + TEALBOBBIN_MAIN_IS_PADDING] = r == ROWS - 1;
-    }
     for (size_t d = 0; d < COUNT(divisions); d++) {
         const size_t chunk = divisions[d].chunk, right = 6 * divisions[d].started;
-        TRUE(TEALBOBBIN_WORK_COUNT(ROWS, chunk) == right);
+        TRUE(TEALBOBBIN_WORK_COUNT(TALL, chunk) == right);
         make_stale(aux, TALL_AUX);
         make_stale(work, MOST);
         /* before 2, and behind 5 and the other lengths */
@@ -768,6 +796,185 @@ static void extend_strict(void)
         table[ROW + CI] = 1;
         REFUSED(6, tealbobbin_extend_strict(table, MAIN, record, RECORD, 4, aux, AUX, work, WORK));
     }
+}
+
+/* Check of columns. Its verdict has one word, or three with the place of a no. */
+
+typedef uint32_t column_check(const uint64_t *, size_t, const uint64_t *, size_t, const uint64_t *, size_t, uint64_t *, size_t);
+
+/* A check, the rows of the table that it is over, the words of its verdict, and its slices. */
+struct offer {
+    column_check *call;
+    size_t rows, words;
+    uint64_t *table, *record, *offered, *verdict;
+};
+
+/* Done, and the verdict alone is new: no at the cell of this word of the columns, or yes where they have no such word. */
+static void finds(int line, const struct offer *offer, size_t wrong)
+{
+    const size_t count = offer->rows * TEALBOBBIN_AUX_WORDS;
+    const uint64_t yes[] = {TEALBOBBIN_YES, 0, 0};
+    const uint64_t no[] = {TEALBOBBIN_NO, wrong / TEALBOBBIN_AUX_WORDS, wrong % TEALBOBBIN_AUX_WORDS / ELEMENT};
+    make_stale(offer->verdict, offer->words);
+    remember();
+    uint32_t answer = offer->call(offer->table, offer->rows * ROW, offer->record, RECORD, offer->offered, count, offer->verdict,
+                                  offer->words);
+    answered(line, "check", answer, TEALBOBBIN_DONE);
+    holds(line, "verdict", offer->verdict, wrong < count ? no : yes, offer->words);
+    holds(line, "table", offer->table, NULL, 0);
+    holds(line, "record", offer->record, NULL, 0);
+    holds(line, "offered", offer->offered, NULL, 0);
+}
+#define YES(offer) finds(__LINE__, offer, SIZE_MAX)
+#define NO_AT(word, offer) finds(__LINE__, offer, word)
+
+/* Right columns: yes. Each word changed, by itself and with a later one: no where it stands. */
+static void of_each_word(const struct offer *offer)
+{
+    const size_t count = offer->rows * TEALBOBBIN_AUX_WORDS;
+    uint64_t *words = offer->offered;
+    YES(offer);
+    for (size_t i = 0; i < count; i++) {
+        const uint64_t right = words[i];
+        words[i] = plus(right, 1);
+        NO_AT(i, offer);
+        for (size_t later = i + 1 + i % 7; later < count; later += 31) {
+            words[later] = plus(words[later], P - 1);
+            NO_AT(i, offer);
+            words[later] = plus(words[later], 1);
+        }
+        words[i] = right;
+    }
+}
+
+/* Sums that go on from a wrong one: no where they begin to, though every later step is right. */
+static void of_sums(const struct offer *offer)
+{
+    static const size_t sums[] = {TEALBOBBIN_AUX_INSTRUCTION_LOOKUP_CLIENT_LOG_DERIVATIVE,
+                                  TEALBOBBIN_AUX_U32_LOOKUP_CLIENT_LOG_DERIVATIVE,
+                                  TEALBOBBIN_AUX_CLOCK_JUMP_DIFFERENCE_LOOKUP_SERVER_LOG_DERIVATIVE};
+    for (size_t c = 0; c < COUNT(sums); c++) {
+        for (size_t r = offer->rows; r-- > 0;) {
+            const size_t word = r * TEALBOBBIN_AUX_WORDS + sums[c] * ELEMENT;
+            offer->offered[word] = plus(offer->offered[word], 1);
+            NO_AT(word, offer);
+        }
+        for (size_t r = 0; r < offer->rows; r++) {
+            const size_t word = r * TEALBOBBIN_AUX_WORDS + sums[c] * ELEMENT;
+            offer->offered[word] = plus(offer->offered[word], P - 1);
+        }
+    }
+    YES(offer);
+}
+
+/* The lengths before the rows, these before the words, and all before a denominator that is zero. */
+static void refuses_offers(column_check *call, size_t words)
+{
+    enum { ROOM = 5 };
+    uint64_t *table = lend_zeros_padded(), *record = lend_record(2), *offered = lend(AUX + 1), *verdict = lend(ROOM);
+    uint64_t *stale = lend(MAIN + 1);
+    for (size_t wrong = 0; wrong <= ROOM; wrong++)
+        if (wrong != words) {
+            REFUSED(1, call(stale, MAIN, record, RECORD, offered, AUX, verdict, wrong));
+            REFUSED(1, call(NULL, 0, record, RECORD, NULL, 0, verdict, wrong));
+        }
+    REFUSED(1, call(stale, MAIN, record, RECORD, offered, AUX, NULL, 0));
+    REFUSED(1, call(stale, MAIN - 1, record, RECORD, offered, AUX, verdict, words));
+    REFUSED(1, call(stale, MAIN + 1, record, RECORD, offered, AUX, verdict, words));
+    REFUSED(1, call(stale, ROW, record, RECORD, offered, AUX, verdict, words));
+    REFUSED(1, call(stale, MAIN, record, RECORD - 1, offered, AUX, verdict, words));
+    REFUSED(1, call(stale, MAIN, record, RECORD + 1, offered, AUX, verdict, words));
+    REFUSED(1, call(stale, MAIN, record, RECORD, offered, AUX - 1, verdict, words));
+    REFUSED(1, call(stale, MAIN, record, RECORD, offered, AUX + 1, verdict, words));
+    REFUSED(1, call(stale, MAIN, record, RECORD, NULL, 0, verdict, words));
+    REFUSED(1, call(NULL, 0, record, RECORD - 1, NULL, 0, verdict, words));
+    REFUSED(1, call(NULL, 0, record, RECORD, offered, AUX / 2, verdict, words));
+
+    const size_t rows = MAX_LEN + 1;
+    uint64_t *long_main = lend_many(rows * ROW), *long_offered = lend_many(rows * AUX / 2);
+    record[0] = P;
+    REFUSED(3, call(NULL, 0, record, RECORD, NULL, 0, verdict, words));
+    REFUSED(3, call(long_main, rows * ROW, record, RECORD, long_offered, rows * AUX / 2, verdict, words));
+    REFUSED(1, call(long_main, rows * ROW, record, RECORD, long_offered, rows * AUX / 2 - 1, verdict, words));
+    record[0] = 2;
+
+    put_columns(offered);
+    table[CI] = 1;
+    for (size_t i = 0; i < MAIN + RECORD + AUX; i++) {
+        uint64_t *word = i < MAIN ? table + i : i < MAIN + RECORD ? record + i - MAIN : offered + i - MAIN - RECORD;
+        uint64_t kept = *word;
+        *word = i % 2 ? UINT64_MAX : P;
+        REFUSED(2, call(table, MAIN, record, RECORD, offered, AUX, verdict, words));
+        *word = kept;
+    }
+
+    /* instruction, clock and U32 as in of_a_table, the last two in row 1; with the columns before, zeros, and any words */
+    for (size_t fill = 0; fill < 3; fill++) {
+        if (fill == 1)
+            memset(offered, 0, AUX * sizeof(uint64_t));
+        if (fill == 2)
+            scatter(offered, AUX);
+        table[CI] = 1;
+        REFUSED(6, call(table, MAIN, record, RECORD, offered, AUX, verdict, words));
+        table[CI] = 0;
+        table[ROW + CLK] = 2;
+        REFUSED(6, call(table, MAIN, record, RECORD, offered, AUX, verdict, words));
+        table[ROW + CLK] = 1;
+        table[CI] = 4;
+        table[ROW + ST0] = P - 3;
+        REFUSED(6, call(table, MAIN, record, RECORD, offered, AUX, verdict, words));
+        table[CI] = table[ROW + ST0] = 0;
+        DONE(call(table, MAIN, record, RECORD, offered, AUX, verdict, words));
+        TRUE(verdict[0] == (fill == 0 ? TEALBOBBIN_YES : TEALBOBBIN_NO));
+        make_stale(verdict, ROOM);
+    }
+}
+
+static void of_offers(column_check *call, size_t words)
+{
+    struct offer offer = {call, 2, words, lend_zeros_padded(), lend_record(2), lend(AUX), lend(words + 1)};
+    put_columns(offer.offered);
+    of_each_word(&offer);
+    of_sums(&offer);
+
+    /* what extension writes, also over rows that do not decode */
+    uint64_t *work = lend(3 * WORK);
+    for (size_t place = 0; place < PLACES; place++) {
+        put_undecodable(offer.table, place);
+        DONE(tealbobbin_extend(offer.table, MAIN, offer.record, RECORD, 4, offer.offered, AUX, work, WORK));
+        YES(&offer);
+    }
+    struct offer tall = {call, TALL, words, lend_tall(), lend_scattered_record(), lend(TALL_AUX), lend(words + 1)};
+    DONE(tealbobbin_extend(tall.table, TALL_MAIN, tall.record, RECORD, 4, tall.offered, TALL_AUX, work, 3 * WORK));
+    of_each_word(&tall);
+    of_sums(&tall);
+    give_back();
+    refuses_offers(call, words);
+    give_back();
+}
+
+/* Not with the verdict of check_at, nor that with this one's. */
+static void check(void)
+{
+    of_offers(tealbobbin_check, 1);
+    uint64_t *table = lend_zeros_padded(), *record = lend_record(2), *offered = lend(AUX), *verdict = lend(3);
+    put_columns(offered);
+    REFUSED(1, tealbobbin_check(table, MAIN, record, RECORD, offered, AUX, verdict, 3));
+    DONE(tealbobbin_check(table, MAIN, record, RECORD, offered, AUX, verdict, 1));
+    HOLDS(verdict, TEALBOBBIN_YES);
+}
+
+/* The jump-stack column of a row of zeros goes from 1 to 2, and from there to 0. */
+static void check_at(void)
+{
+    enum { JUMPS = TEALBOBBIN_AUX_JUMP_STACK_TABLE_PERM_ARG };
+    of_offers(tealbobbin_check_at, 3);
+    uint64_t *table = lend_zeros_padded(), *record = lend_record(2), *offered = lend(AUX), *verdict = lend(3);
+    put_columns(offered);
+    REFUSED(1, tealbobbin_check_at(table, MAIN, record, RECORD, offered, AUX, verdict, 1));
+    offered[JUMPS * ELEMENT] = 1;
+    DONE(tealbobbin_check_at(table, MAIN, record, RECORD, offered, AUX, verdict, 3));
+    HOLDS(verdict, TEALBOBBIN_NO, 0, JUMPS);
 }
 
 /* Batches. */
@@ -1774,6 +1981,10 @@ static const struct {
     {"extend_strict", extend_strict,
      {TEALBOBBIN_SLICE_LENGTH, TEALBOBBIN_ROW_COUNT, TEALBOBBIN_CHUNK_LENGTH_ZERO,
       TEALBOBBIN_WORD_NOT_BELOW_P, TEALBOBBIN_UNDECODABLE_ROW, TEALBOBBIN_ZERO_DENOMINATOR}},
+    {"check", check,
+     {TEALBOBBIN_SLICE_LENGTH, TEALBOBBIN_ROW_COUNT, TEALBOBBIN_WORD_NOT_BELOW_P, TEALBOBBIN_ZERO_DENOMINATOR}},
+    {"check_at", check_at,
+     {TEALBOBBIN_SLICE_LENGTH, TEALBOBBIN_ROW_COUNT, TEALBOBBIN_WORD_NOT_BELOW_P, TEALBOBBIN_ZERO_DENOMINATOR}},
     {"open", open,
      {TEALBOBBIN_SLICE_LENGTH, TEALBOBBIN_UNKNOWN_COMMAND, TEALBOBBIN_BATCH_CUT_OFF,
       TEALBOBBIN_COMMAND_OUT_OF_PLACE, TEALBOBBIN_COMMAND_OUT_OF_ORDER, TEALBOBBIN_ROW_COUNT, TEALBOBBIN_HEIGHT_OUT_OF_RANGE,

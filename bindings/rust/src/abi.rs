@@ -81,6 +81,26 @@ mod raw {
             work: *mut u64,
             wl: usize,
         ) -> u32;
+        pub fn tealbobbin_check(
+            main: *const u64,
+            ml: usize,
+            challenges: *const u64,
+            cl: usize,
+            offered: *const u64,
+            ol: usize,
+            verdict: *mut u64,
+            len: usize,
+        ) -> u32;
+        pub fn tealbobbin_check_at(
+            main: *const u64,
+            ml: usize,
+            challenges: *const u64,
+            cl: usize,
+            offered: *const u64,
+            ol: usize,
+            verdict: *mut u64,
+            len: usize,
+        ) -> u32;
         pub fn tealbobbin_open(
             bytes: *const u8,
             bl: usize,
@@ -227,6 +247,27 @@ macro_rules! extensions {
     )* };
 }
 
+macro_rules! checks {
+    ($($(#[$meaning:meta])* $name:ident = $raw:ident),* $(,)?) => { $(
+        $(#[$meaning])*
+        #[must_use]
+        pub fn $name(main: &[u64], challenges: &[u64], offered: &[u64], verdict: &mut [u64]) -> u32 {
+            unsafe {
+                raw::$raw(
+                    main.as_ptr(),
+                    main.len(),
+                    challenges.as_ptr(),
+                    challenges.len(),
+                    offered.as_ptr(),
+                    offered.len(),
+                    verdict.as_mut_ptr(),
+                    verdict.len(),
+                )
+            }
+        }
+    )* };
+}
+
 of_a_word! {
     /// 1 / a modulo p.
     base_inverse = tealbobbin_base_inverse,
@@ -274,6 +315,13 @@ extensions! {
     extend = tealbobbin_extend,
     /// The same, if every row of `main` decodes.
     extend_strict = tealbobbin_extend_strict,
+}
+
+checks! {
+    /// Whether `offered` are the eleven columns of `main`: 1 into `verdict` if they are, or 0.
+    check = tealbobbin_check,
+    /// The same, into three words: 1, 0 and 0; or 0, the first row, and in it the first column, that is wrong.
+    check_at = tealbobbin_check_at,
 }
 
 /// k·a.

@@ -34,8 +34,9 @@
 //! ```
 //!
 //! [`batch::terminals`] does all of this in one call and without a table, which is millions of rows high where a batch says so.
-//! [`processor`] has an example of rows built by hand, [`batch`] one of a batch that is filled, written and opened again in both
-//! forms of rows, [`field::Montgomery`] one of arithmetic in the prover's form, and [`isa`] says why a row does not decode.
+//! [`processor`] has an example of rows built by hand, [`processor::check`] one of columns made elsewhere, [`batch`] one of a batch
+//! that is filled, written and opened again in both forms of rows, [`field::Montgomery`] one of arithmetic in the prover's form, and
+//! [`isa`] says why a row does not decode.
 //!
 //! A word is a `u64` below [`field::P`], an [`Element`](field::Element) three of them; a word in Montgomery form is a type of its own,
 //! [`Montgomery`](field::Montgomery). Rows, elements and challenges are types over their words, which are lent to the library where

@@ -31,6 +31,7 @@
 //! # Ok::<(), tealbobbin::Refusal>(())
 //! ```
 
+use core::fmt::{Display, Formatter, Result as Written};
 use core::ops::{Index, IndexMut};
 use core::slice::from_ref;
 
@@ -204,8 +205,98 @@ pub fn extend_strict(
     answer(abi::extend_strict(words(main), words(from_ref(challenges)), chunk, words_mut(aux), work), ())
 }
 
+/// What [`check`] finds. It is shown as `yes`, or as the place of the no.
+#[derive(Debug, Clone, Copy, PartialEq, Eq, Hash)]
+#[must_use = "a no is not an error"]
+pub enum Verdict {
+    /// The columns are just those that [`extend`] writes.
+    Yes,
+    /// They are not: in this place first.
+    No(Place),
+}
+
+/// A cell that does not follow, by the entries of its row, from the cell before it: that of its column in the row before, or, in row
+/// 0, what the column starts from. Rows before it are right, and so are the columns before it in its row.
+#[derive(Debug, Clone, Copy, PartialEq, Eq, Hash)]
+pub struct Place {
+    /// The row, counted from 0.
+    pub row: usize,
+    /// The column.
+    pub column: ProcessorAuxColumn,
+}
+
+impl Display for Verdict {
+    fn fmt(&self, f: &mut Formatter<'_>) -> Written {
+        match self {
+            Verdict::Yes => f.pad("yes"),
+            Verdict::No(place) => place.fmt(f),
+        }
+    }
+}
+
+impl Display for Place {
+    fn fmt(&self, f: &mut Formatter<'_>) -> Written {
+        let Place { row, column } = self;
+        let before = if *row == 0 { "its start" } else { "the row before" };
+        write!(f, "row {row}: column {column} does not follow from {before}")
+    }
+}
+
+/// Checks columns made elsewhere: whether [`extend`], at any chunk length, would write just these, and if not, where they go wrong.
+/// Nothing is inverted.
+///
+/// ```
+/// use tealbobbin::air::ProcessorAuxColumn::RamTablePermArg;
+/// # use tealbobbin::challenges::{Challenges, Claim, SampledChallenges};
+/// # use tealbobbin::field::Element;
+/// use tealbobbin::processor::{check, extend, work_len, AuxRow, MainRow, Place, Verdict};
+///
+/// # let sampled = SampledChallenges([Element::from(2); Challenges::SAMPLE_COUNT]);
+/// # let challenges = Challenges::new(&sampled, Claim { program_digest: [0; 5], input: &[], output: &[] })?;
+/// let table = [MainRow::ZERO; 4];
+/// let (mut aux, mut work) = ([AuxRow::ZERO; 4], [0; work_len(4, 4)]);
+/// extend(&table, &challenges, 4, &mut aux, &mut work)?;
+/// assert_eq!(check(&table, &challenges, &aux)?, Verdict::Yes);
+///
+/// aux[3][RamTablePermArg].0[1] = 7;
+/// let verdict = check(&table, &challenges, &aux)?;
+/// assert_eq!(verdict, Verdict::No(Place { row: 3, column: RamTablePermArg }));
+/// assert_eq!(verdict.to_string(), "row 3: column RamTablePermArg does not follow from the row before");
+/// # Ok::<(), tealbobbin::Refusal>(())
+/// ```
+///
+/// # Errors
+///
+/// [`Refusal::SliceLength`] unless `offered` has a row for each row of `main`, then [`Refusal::RowCount`] if rows are 0 or over
+/// [`MAX_ROWS`], then [`Refusal::WordNotBelowP`] in `main` or `offered`, then [`Refusal::ZeroDenominator`] as [`extend`], whatever
+/// `offered` holds.
+pub fn check(main: &[MainRow], challenges: &Challenges, offered: &[AuxRow]) -> Result<Verdict, Refusal> {
+    let mut verdict = [0; 3];
+    let number = abi::check_at(words(main), words(from_ref(challenges)), words(offered), &mut verdict);
+    let verdict = match verdict {
+        [1, ..] => Verdict::Yes,
+        [_, row, column] => Verdict::No(Place { row: row as usize, column: ProcessorAuxColumn::ALL[column as usize] }),
+    };
+    answer(number, verdict)
+}
+
+/// Whether [`check`] says yes.
+///
+/// # Errors
+///
+/// As [`check`].
+pub fn accepts(main: &[MainRow], challenges: &Challenges, offered: &[AuxRow]) -> Result<bool, Refusal> {
+    let mut verdict = [0];
+    let number = abi::check(words(main), words(from_ref(challenges)), words(offered), &mut verdict);
+    answer(number, verdict == [1])
+}
+
 #[cfg(test)]
 mod tests {
+    extern crate std;
+
+    use std::string::ToString;
+
     use super::*;
     use crate::air::ProcessorAuxColumn::*;
     use crate::air::ProcessorMainColumn::*;
@@ -304,6 +395,68 @@ mod tests {
                 }
             }
         }
+    }
+
+    /// What both functions say of the columns.
+    fn verdict(table: &[MainRow], offered: &[AuxRow]) -> Result<Verdict, Refusal> {
+        let verdict = check(table, &challenges(), offered);
+        assert_eq!(accepts(table, &challenges(), offered), verdict.map(|verdict| verdict == Verdict::Yes));
+        verdict
+    }
+
+    #[test]
+    fn each_word_offered() {
+        let mut table = [MainRow::ZERO; 6];
+        for (row, (ci, nia)) in table.iter_mut().zip([(73, 2), (19, 1), (4, 0), (20, 0), (57, 5), (18, 0)]) {
+            (row[CI], row[NIA], row[ST0], row[ClockJumpDifferenceLookupMultiplicity]) = (ci, nia, ci + 40, nia);
+        }
+        let mut columns = [AuxRow::ZERO; 6];
+        extend(&table, &challenges(), 4, &mut columns, &mut [0; work_len(6, 4)]).unwrap();
+        assert_eq!(verdict(&table, &columns), Ok(Verdict::Yes));
+        for row in 0..6 {
+            for column in ProcessorAuxColumn::ALL {
+                for word in 0..3 {
+                    let mut offered = columns;
+                    let right = offered[row][column].0[word];
+                    offered[row][column].0[word] = if right == 0 { P - 1 } else { right - 1 };
+                    assert_eq!(verdict(&table, &offered), Ok(Verdict::No(Place { row, column })));
+                    // whatever the later columns and rows hold
+                    offered[row].0[column.aux_index() + 1..].fill(Element::ZERO);
+                    offered[row + 1..].fill(AuxRow::ZERO);
+                    assert_eq!(verdict(&table, &offered), Ok(Verdict::No(Place { row, column })));
+                    offered[5].0[0].0[0] = P;
+                    assert_eq!(verdict(&table, &offered), Err(Refusal::WordNotBelowP));
+                }
+            }
+        }
+    }
+
+    #[test]
+    fn refused_before_a_no() {
+        let (table, columns) = ([MainRow::ZERO; 3], [AuxRow::ZERO; 3]);
+        assert_eq!(verdict(&table, &columns), Ok(Verdict::No(Place { row: 0, column: InputTableEvalArg })));
+        // 10 - (10·IP + 10·CI + 10·NIA)
+        let mut zero = table;
+        zero[2][IP] = 1;
+        assert_eq!(verdict(&zero, &columns), Err(Refusal::ZeroDenominator));
+        let mut bad = columns;
+        bad[2][InputTableEvalArg] = Element::from(P);
+        assert_eq!(verdict(&zero, &bad), Err(Refusal::WordNotBelowP));
+        zero[2][HV0] = P;
+        assert_eq!(verdict(&zero, &columns), Err(Refusal::WordNotBelowP));
+        for rows in 0..3 {
+            assert_eq!(verdict(&zero, &bad[..rows]), Err(Refusal::SliceLength));
+            assert_eq!(verdict(&zero[..rows], &bad), Err(Refusal::SliceLength));
+        }
+        assert_eq!(verdict(&[], &[]), Err(Refusal::RowCount));
+    }
+
+    #[test]
+    fn verdicts_shown() {
+        let no = |row, column| Verdict::No(Place { row, column }).to_string();
+        assert_eq!(Verdict::Yes.to_string(), "yes");
+        assert_eq!(no(0, InputTableEvalArg), "row 0: column InputTableEvalArg does not follow from its start");
+        assert_eq!(no(1, SpongeEvalArg), "row 1: column SpongeEvalArg does not follow from the row before");
     }
 
     #[test]

@@ -58,20 +58,20 @@ refusals! {
     /// 1: a slice has the wrong length.
     SliceLength = 1, "a slice has the wrong length (a batch has at most {MAX_BYTES} bytes, {MAX_DIFFERENCES} differences in a list and \
         {MAX_IO_WORDS} words of input and of output, and is written into exactly the bytes that it takes; another list, or a scan, has \
-        at most {MAX_ROWS} items; extension takes an auxiliary row for each row of the main table, and {WORK_WIDTH} words of work for \
-        each started chunk of them, as processor::work_len says)";
+        at most {MAX_ROWS} items; extension and check take an auxiliary row for each row of the main table, and extension \
+        {WORK_WIDTH} words of work for each started chunk of them, as processor::work_len says)";
     /// 2: a word is not below p.
     WordNotBelowP = 2, "a word is not below p = {P} (reduce every word modulo p before handing it over)";
     /// 3: a number of rows is out of range.
     RowCount = 3, "a number of rows is out of range (a batch has 1 to {MAX_TRACE_ROWS}; a table has at least its trace's, \
-        2 to be padded, 1 to be extended, and at most {MAX_ROWS})";
+        2 to be padded, 1 to be extended or checked, and at most {MAX_ROWS})";
     /// 4: a clock jump difference is not below the number of trace rows.
     DifferenceTooLarge = 4, "a clock jump difference is not below the number of trace rows (it names a row of its own trace)";
     /// 5: the chunk length is 0.
     ChunkLengthZero = 5, "the chunk length is 0 (any positive one gives the same result)";
     /// 6: a denominator is zero, or what is to be inverted.
-    ZeroDenominator = 6, "a denominator is zero, or what is to be inverted (where extension refuses, a challenge equals an entry of \
-        a lookup column: sample the challenges again)";
+    ZeroDenominator = 6, "a denominator is zero, or what is to be inverted (where extension or check refuses, a challenge equals \
+        an entry of a lookup column: sample the challenges again)";
     /// 7: a byte of a batch is no command.
     UnknownCommand = 7, "a byte of the batch is no command (commands are 00 to 0B; the operand before it may have another width than \
         its command asks)";

@@ -5,6 +5,7 @@ use field::XFieldElement;
 use field::unchecked::settle_weighed;
 use field::unchecked::weigh_last;
 use field::unchecked::weigh_more;
+use field_base::unchecked::settle;
 use isa_decoding::Decoded;
 ghost use mathlib.Core.Path.{_≡_};
 ghost use Prim.Native.Nat.{_+_, _≤_};
@@ -45,6 +46,16 @@ pub fn compress3(weights: [XFieldElement; 3], words: [u64; 3]) -> XFieldElement
     let last = weigh_last(words[2], weights[2]);
     let last_two = weigh_more(words[1], weights[1], last);
     settle_weighed(weigh_more(words[0], weights[0], last_two))
+}
+
+// The coefficient of X^0 of the same.
+pub fn compress3_c0(weights: [XFieldElement; 3], words: [u64; 3]) -> u64
+    ensures { λ r. ⌜ r ≡ weigh weights words .c0 ⌝ }
+{
+    let last = weigh_last(words[2], weights[2]);
+    let last_two = weigh_more(words[1], weights[1], last);
+    let sums = weigh_more(words[0], weights[0], last_two);
+    settle(sums.c0)
 }
 
 pub fn compress4(weights: [XFieldElement; 4], words: [u64; 4]) -> XFieldElement

@@ -17,7 +17,7 @@ ghost use Rattle.extend_answer.specs.Answer.{rightLengths};
 ghost use Rattle.extend_answer.specs.Strict.{answerIn};
 ghost use Rattle.extend_answer.specs.RowsAnswer.{rowsAnswer};
 
-fn right_lengths(main: &[u64], challenges: &[u64], aux: &[u64]) -> bool
+pub fn right_lengths(main: &[u64], challenges: &[u64], aux: &[u64]) -> bool
     ensures { λ r. ⌜ r ≡ rightLengths (now (main .entry)) (now (challenges .entry)) (now (aux .entry)) ⌝ }
 {
     let rows = main.len() / MainIndex::COUNT;

@@ -5,3 +5,4 @@ pub mod Products
 pub mod Zeros
 pub mod Rows
 pub mod Items
+pub mod Differences

@@ -6,6 +6,8 @@ use tealbobbin_answers::put_decoded;
 use tealbobbin_answers::put_element;
 use tealbobbin_answers::told_form;
 use tealbobbin_answers::unchecked::put_counts;
+use tealbobbin_answers::unchecked::put_place;
+use tealbobbin_answers::unchecked::put_verdict;
 ghost use mathlib.Core.Path.{_≡_};
 ghost use lib.ListN.{length};
 ghost use Rattle.field_base.specs.Answers.{baseAdd, baseSub, baseMul, baseInverse};
@@ -21,6 +23,7 @@ ghost use Rattle.table_pad.specs.Pad.{padAnswer, padTable};
 ghost use Rattle.extend_answer.specs.Answer.{extendAnswer};
 ghost use Rattle.extend_answer.specs.Strict.{strictAnswer};
 ghost use Rattle.extend.specs.Extend.{extendAux, extendWork, strictAux, strictWork};
+ghost use Rattle.check_columns.specs.Check.{checkAnswer};
 ghost use Rattle.batch.specs.Open.{openNumber};
 ghost use Rattle.batch_writer.specs.Contents.{contentsOf};
 ghost use Rattle.batch_writer.specs.Write.{writeAnswer, writeBatch};
@@ -28,6 +31,7 @@ ghost use Rattle.terminals_batch.specs.Into.{terminalsInto, cellsInto};
 ghost use Rattle.tealbobbin_answers.specs.Open.{slices, openInto, slicesAfter};
 ghost use Rattle.tealbobbin_answers.specs.Write.{toldForm};
 ghost use Rattle.tealbobbin_answers.specs.Decode.{decodeNumberInto, decodeInto};
+ghost use Rattle.tealbobbin_answers.specs.Check.{checkNumberInto, checkInto};
 ghost use Rattle.tealbobbin_answers.specs.Field.{baseNumberInto, baseInto, unaryNumber, unaryOut, binaryNumber, binaryOut};
 
 #[no_mangle]
@@ -287,6 +291,44 @@ pub extern "C" fn tealbobbin_extend_strict(
         ≡ strictWork (now (main .entry)) (now (challenges .entry)) chunk (now (aux .entry)) (now (work .entry)) ⌝ }
 {
     refusal::answer_number(extend::extend_strict(main, challenges, chunk, aux, work))
+}
+
+// Whether offered columns are just those that extension would write: 1 into `verdict` if they are, 0 if not.
+#[no_mangle]
+pub extern "C" fn tealbobbin_check(
+    main: &[u64],
+    challenges: &[u64],
+    offered: &[u64],
+    verdict: &mut [u64],
+) -> u32
+    ensures number { λ r. ⌜ r ≡ checkNumberInto 1 (now (verdict .entry))
+        (checkAnswer (now (main .entry)) (now (challenges .entry)) (now (offered .entry))) ⌝ }
+    ensures written { λ r. ⌜ now (verdict .exit) ≡ checkInto 1 (now (verdict .entry))
+        (checkAnswer (now (main .entry)) (now (challenges .entry)) (now (offered .entry))) ⌝ }
+{
+    if verdict.len() != 1 {
+        return 1;
+    }
+    put_verdict(check_columns::check(main, challenges, offered), verdict)
+}
+
+// The same, and behind a 0 the first row, and in it the first column, whose relation fails; behind a 1 zeros.
+#[no_mangle]
+pub extern "C" fn tealbobbin_check_at(
+    main: &[u64],
+    challenges: &[u64],
+    offered: &[u64],
+    verdict: &mut [u64],
+) -> u32
+    ensures number { λ r. ⌜ r ≡ checkNumberInto 3 (now (verdict .entry))
+        (checkAnswer (now (main .entry)) (now (challenges .entry)) (now (offered .entry))) ⌝ }
+    ensures written { λ r. ⌜ now (verdict .exit) ≡ checkInto 3 (now (verdict .entry))
+        (checkAnswer (now (main .entry)) (now (challenges .entry)) (now (offered .entry))) ⌝ }
+{
+    if verdict.len() != 3 {
+        return 1;
+    }
+    put_place(check_columns::check(main, challenges, offered), verdict)
 }
 
 // Opens a batch: rows and words into the slices, how many into `counts`.

@@ -3,3 +3,4 @@ pub mod Field
 pub mod Decode
 pub mod Open
 pub mod Write
+pub mod Check

@@ -17,3 +17,4 @@ pub mod Term3
 pub mod Calls
 pub mod Term1
 pub mod Strict
+pub mod Check

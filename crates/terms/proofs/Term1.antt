@@ -66,7 +66,12 @@ use Rattle.batch_writer.specs.Write as writer
 use Rattle.batch_writer.specs.Write.{writeAnswer, writeBatch}
 use Rattle.tealbobbin_answers.specs.Field.{isWord, isElement, baseWritten, elementWritten, elementNumberInto, elementInto, unaryNumber, unaryOut}
 use Rattle.tealbobbin_answers.specs.Open.{Slices, openInto, slicesBy}
-use Rattle.terms.specs.Term1.{_∈_, Answers, OnWords, OnElement, OnElements, Scans, Term1}
+use Rattle.tealbobbin_answers.specs.Check.{checkNumber, checkWritten}
+use Rattle.check_relations.specs.First.{verdict}
+use Rattle.check_columns.specs.Check.{checkAnswer}
+use Rattle.check_columns.specs.declared.CheckAnswer.{CheckAnswer}
+use Rattle.check_columns.specs.declared.CheckAnswer.the-variants as check-answer
+use Rattle.terms.specs.Term1.{_∈_, Answers, OnWords, OnElement, OnElements, Scans, Checks, Term1}
 use Rattle.terms.proofs.Tests.{every, and-both}
 
 -- whether a number stands in a list
@@ -167,6 +172,22 @@ inverse-checked a w =
 element-checked : {line : List ℕ} (below : Bool) (answer : ElementAnswer) → T (stands line 2) → answers.elementNumber answer ∈ 0 ∷ line
     → answers.elementNumber (answers.elementChecked below answer) ∈ 0 ∷ line
 element-checked below answer t f = chosen answers.elementNumber below answer (element-answer.Refused WordNotBelowP) f (listed WordNotBelowP t)
+
+check-kept : {line : List ℕ} (n : ℕ) (a : CheckAnswer) → checkNumber a ∈ 0 ∷ line → (out : List ℕ) → Answers line (checkNumber a) (checkWritten n out a ≡ out)
+check-kept n (check-answer.Checked v) f out = done
+check-kept n (check-answer.Refused r) f out = refused f refl
+
+checks : (n : ℕ) → Checks (1 ∷ 3 ∷ 2 ∷ 6 ∷ []) n
+unfolding checkAnswer
+checks n main challenges offered out =
+    let answer = checkAnswer main challenges offered in
+    guarded (eqb (length out) n) (checkNumber answer) (checkWritten n out answer) out tt
+    (check-kept n answer
+    (by-tests check-answer.Refused checkNumber (λ r. refl)
+    ((not (extension.rightLengths main challenges offered), SliceLength) ∷ (wrongRows main, RowCount)
+    ∷ (not (allBelow main && allBelow challenges && allBelow offered), WordNotBelowP) ∷ (zeroDenominator main challenges, ZeroDenominator) ∷ [])
+    tt (check-answer.Checked (verdict challenges main offered)) zero-listed)
+    out)
 
 decode-kept : {line : List ℕ} (a : DecodeAnswer) → answerNumber a ∈ 0 ∷ line → (out : List ℕ) → Answers line (answerNumber a) (answerWords a out ≡ out)
 decode-kept (decode-answer.Row d) f out = done
@@ -374,6 +395,8 @@ term1 =
           on-done (padAnswer table len)
           (by-refusals (padTests table len) tt)
           (padded table len) table;
+      check = checks 1;
+      check-at = checks 3;
       extend = λ main challenges chunk aux work.
           two-slices (extendAnswer main challenges chunk aux work) (by-refusals (extendTests main challenges chunk aux work) tt)
           (extended main challenges) aux (replicate (length work) 0) work;

@@ -6,5 +6,6 @@ pub mod Term3
 pub mod Counting
 pub mod Columns
 pub mod Calls
--- What document 02 adds: strict extension.
+-- What document 02 adds: strict extension, and the check of columns made elsewhere.
 pub mod Strict
+pub mod Check

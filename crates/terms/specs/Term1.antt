@@ -22,11 +22,13 @@ use Rattle.table_pad.specs.Pad.{padAnswer, padTable}
 use Rattle.extend_answer.specs.Answer.{extendAnswer}
 use Rattle.extend_answer.specs.Strict.{strictAnswer}
 use Rattle.extend.specs.Extend.{extendAux, extendWork, strictAux, strictWork}
+use Rattle.check_columns.specs.Check.{checkAnswer}
 use Rattle.batch.specs.Open.{openNumber}
 use Rattle.batch_writer.specs.Contents.{Contents}
 use Rattle.batch_writer.specs.Write.{writeAnswer, writeBatch}
 use Rattle.tealbobbin_answers.specs.Field.{baseNumberInto, baseInto, unaryNumber, unaryOut, binaryNumber, binaryOut}
 use Rattle.tealbobbin_answers.specs.Decode.{decodeNumberInto, decodeInto}
+use Rattle.tealbobbin_answers.specs.Check.{checkNumberInto, checkInto}
 use Rattle.terminals_batch.specs.Into.{terminalsInto, cellsInto}
 use Rattle.tealbobbin_answers.specs.Write.{toldForm}
 use Rattle.tealbobbin_answers.specs.Open.{Slices, openInto, slicesAfter}
@@ -55,6 +57,12 @@ OnElements line f = (a b out : List ℕ) → Answers line (binaryNumber f a b ou
 abbrev pub Scans : List ℕ → ℕ → (List ℕ → List ℕ) → Type 0
 Scans line width scanned =
     (items : List ℕ) (chunk : ℕ) → Answers line (answerNumberOf (scanAnswer width items chunk)) (scanWords width items chunk (scanned items) ≡ items)
+
+-- a check of offered columns, whose verdict goes into n words
+abbrev pub Checks : List ℕ → ℕ → Type 0
+Checks line n =
+    (main challenges offered verdict : List ℕ)
+    → Answers line (checkNumberInto n verdict (checkAnswer main challenges offered)) (checkInto n verdict (checkAnswer main challenges offered) ≡ verdict)
 
 -- The lines are document 01's, "Refusals by operation", with what document 02 adds. A field operation over slices also answers 1.
 pub record Term1 : Type 0 where
@@ -89,6 +97,8 @@ pub record Term1 : Type 0 where
   pub extend-strict : (main challenges : List ℕ) (chunk : ℕ) (aux work : List ℕ)
       → Answers (1 ∷ 3 ∷ 5 ∷ 2 ∷ 11 ∷ 6 ∷ []) (answerNumberOf (strictAnswer main challenges chunk aux work))
       ((strictAux main challenges chunk aux work ≡ aux) × (strictWork main challenges chunk aux work ≡ work))
+  pub check : Checks (1 ∷ 3 ∷ 2 ∷ 6 ∷ []) 1
+  pub check-at : Checks (1 ∷ 3 ∷ 2 ∷ 6 ∷ []) 3
   pub open-batch : (batch : List ℕ) (lent : Slices)
       → Answers (1 ∷ 7 ∷ 8 ∷ 9 ∷ 10 ∷ 3 ∷ 12 ∷ 2 ∷ []) (openNumber (openInto batch lent)) (slicesAfter batch lent ≡ lent)
   pub write-batch : (contents : Contents) (form : ℕ) (batch : List ℕ)

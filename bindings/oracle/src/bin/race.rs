@@ -3,10 +3,10 @@
 //! The original's tables lie column by column; it also runs on tables that lie row by row, as the library's do, and its better
 //! time counts.
 //!
-//!     race [terminals]
+//!     race [terminals | check]
 //!
-//! The last table has the walk of padding rows beside the original's fill, pad and extension of the whole table. With the word it is
-//! the only one, and goes on to 2^20 rows, and to 2^22 for the library alone.
+//! The last two tables have the walk of padding rows beside the original's fill, pad and extension of the whole table, and check beside
+//! extension. With its word a table is the only one; that of `terminals` then goes on to 2^20 rows, and to 2^22 for the library alone.
 
 use std::hint::black_box;
 use std::time::{Duration, Instant};
@@ -25,6 +25,9 @@ use tealbobbin::processor::work_len;
 
 /// The chunk length of extension.
 const CHUNK: usize = 4096;
+
+/// The rows of the tables.
+const ROWS: [usize; 3] = [1 << 12, 1 << 16, 1 << 18];
 
 fn timed<T>(run: impl FnOnce() -> T) -> Duration {
     let began = Instant::now();
@@ -80,6 +83,23 @@ fn extend_strict(random: &mut Random, mix: Mix, rows: usize, padding: usize, eve
     };
     let times = best(rows, [&mut || run(abi::extend, &mut ordinary), &mut || run(abi::extend_strict, &mut strict)]);
     assert!(ordinary == strict);
+    times
+}
+
+/// Extension in the original's place, and check of the columns that it writes.
+fn check(random: &mut Random, mix: Mix, rows: usize, padding: usize, every: u64) -> Times {
+    let (main, challenges) = (mixed(random, mix, rows, padding, every), words(random, 189));
+    let (mut aux, mut work, mut verdict) = (vec![0; 33 * rows], vec![0; work_len(rows, CHUNK)], [0]);
+    assert_eq!(abi::extend(&main, &challenges, CHUNK, &mut aux, &mut work), 0);
+    let offered = aux.clone();
+    let times = best(
+        rows,
+        [
+            &mut || timed(|| assert_eq!(abi::extend(&main, &challenges, CHUNK, &mut aux, &mut work), 0)),
+            &mut || timed(|| assert_eq!(abi::check(&main, &challenges, &offered, &mut verdict), 0)),
+        ],
+    );
+    assert!(verdict == [1] && aux == offered);
     times
 }
 
@@ -241,10 +261,22 @@ fn terminals_at(random: &mut Random, heights: &[usize]) {
     every_instruction(random);
 }
 
+/// Check is to take no longer than extension.
+fn checks(random: &mut Random) {
+    header("extend", "check");
+    let realistic =
+        lines("check, realistic", &[&ROWS[..], &[1 << 20]].concat(), |rows| check(random, REALISTIC, rows, rows / 4, 10));
+    let worst = lines("check, worst", &ROWS, |rows| check(random, WORST, rows, 0, 1));
+    if realistic.iter().chain(&worst).any(|&ratio| ratio > 1.0) {
+        println!("check: over extension's time");
+    }
+}
+
 fn main() {
     let random = &mut Random(7);
     match std::env::args().nth(1).as_deref() {
         None => tables(random),
+        Some("check") => checks(random),
         Some("terminals") => {
             terminals_at(random, &[1 << 12, 1 << 16, 1 << 18, 1 << 20]);
             for (what, last, _) in ENDS {
@@ -253,17 +285,16 @@ fn main() {
                 println!("{what:<20} {rows:>8} {:>10} {library:>10.1}", "");
             }
         }
-        Some(other) => panic!("{other}: race [terminals]"),
+        Some(other) => panic!("{other}: race [terminals | check]"),
     }
 }
 
 fn tables(random: &mut Random) {
     header("original", "library");
-    let rows = [1 << 12, 1 << 16, 1 << 18];
-    lines("extend, realistic", &[&rows[..], &[1 << 20]].concat(), |rows| extend(random, REALISTIC, rows, rows / 4, 10));
-    lines("extend, worst", &rows, |rows| extend(random, WORST, rows, 0, 1));
-    lines("fill", &rows, |rows| fill(random, rows));
-    lines("pad", &rows, |rows| pad(random, rows));
+    lines("extend, realistic", &[&ROWS[..], &[1 << 20]].concat(), |rows| extend(random, REALISTIC, rows, rows / 4, 10));
+    lines("extend, worst", &ROWS, |rows| extend(random, WORST, rows, 0, 1));
+    lines("fill", &ROWS, |rows| fill(random, rows));
+    lines("pad", &ROWS, |rows| pad(random, rows));
     lines("challenges, a call", &[0], |input| challenges(random, input));
     lines("challenges, a word", &[1 << 16], |input| challenges(random, input));
     let items = [1 << 16, 1 << 20];
@@ -271,7 +302,8 @@ fn tables(random: &mut Random) {
     lines("scan of products", &items, |items| scan(random, 3, Items::products, abi::scan_products, items));
     lines("scan of sums", &items, |items| scan(random, 3, Items::sums, abi::scan_sums, items));
     header("extend", "strictly");
-    lines("extend, realistic", &rows, |rows| extend_strict(random, REALISTIC, rows, rows / 4, 10));
-    lines("extend, worst", &rows, |rows| extend_strict(random, WORST, rows, 0, 1));
-    terminals_at(random, &rows);
+    lines("extend, realistic", &ROWS, |rows| extend_strict(random, REALISTIC, rows, rows / 4, 10));
+    lines("extend, worst", &ROWS, |rows| extend_strict(random, WORST, rows, 0, 1));
+    terminals_at(random, &ROWS);
+    checks(random);
 }

@@ -2,191 +2,28 @@
 
 use compare::extensions::{any_chunk, count, count_strict, other_work, refusal, report, tallies};
 use compare::extensions::{Tallies, CHUNKS, EXTENSIONS, STRICT, WORKS};
-use compare::plain::batched::extend_batched;
-use compare::plain::extension::{by_row, column::*, extend_plain, opcode, undecodable, Challenges, Kind, AUX_WIDTH, COLUMNS, WIDTH};
-use compare::plain::{self, Element};
+use compare::plain::extension::{column::*, opcode, undecodable, AUX_WIDTH, COLUMNS, WIDTH};
 use compare::random::Random;
 use compare::rows::{mend, spoil};
-use compare::tally::Tally;
 use tealbobbin::field::P;
 use tealbobbin::processor::{work_len, MAX_ROWS, WORK_WIDTH};
 
-const RECORD: usize = tealbobbin::challenges::Challenges::WORDS;
-const INSTRUCTION: usize = 2;
-const U32: usize = 9;
-const CLOCK: usize = 10;
+use crate::cases::{any_words, spoil_some, table, Case, CLOCK, INSTRUCTION, RECORD, U32};
 
 /// What strict extension is to meet: where the rows are that do not decode, and other faults beside them.
 const KINDS: [&str; 6] =
     ["row 0 alone undecodable", "the last row alone", "padding alone", "2 before 11", "11 before 6", "2 before 11 and 6"];
 
-/// A main table and challenges, and the lengths of the slices for columns and work, of that only where it is not to be the right one.
-#[derive(Clone)]
-struct Case {
-    main: Vec<u64>,
-    challenges: Vec<u64>,
-    aux: usize,
-    work: Option<usize>,
-}
-
-fn any_words(random: &mut Random, n: usize) -> Vec<u64> {
-    (0..n).map(|_| random.any()).collect()
-}
-
-/// One of the four: anything below p, small, at an edge, or a mixture.
-fn word(random: &mut Random, flavour: u64) -> u64 {
-    match flavour % 4 {
-        0 => random.base(),
-        1 => random.word() % 8,
-        2 => random.edge() % P,
-        _ => {
-            let flavour = random.word() % 3;
-            word(random, flavour)
-        }
-    }
-}
-
-/// All opcodes, as they are and out of range; arguments in and out of range; padding marked with 1 and with other words.
-pub fn row(random: &mut Random, flavour: u64, index: usize) -> Vec<u64> {
-    let mut row: Vec<u64> = (0..WIDTH).map(|_| word(random, flavour)).collect();
-    let code = opcode::ALL[random.word() as usize % opcode::ALL.len()];
-    row[CI] = match random.word() % 24 {
-        0 => code + (1 << 8),
-        1 => code + (1 << 32),
-        2 => random.word() % 100,
-        3 => row[CI],
-        _ => code,
-    };
-    row[NIA] = match random.word() % 12 {
-        0 => (1 << 32) + random.word() % 8,
-        1 => row[NIA],
-        2 | 3 => random.word() % 20,
-        _ => random.word() % 5 + 1,
-    };
-    row[IS_PADDING] = match random.word() % 8 {
-        0 => 1,
-        1 => 2,
-        2 => row[IS_PADDING],
-        _ => 0,
-    };
-    if random.word() % 2 == 0 {
-        row[CLK] = index as u64;
-    }
-    if random.word() % 2 == 0 {
-        row[MULTIPLICITY] = 0;
-    }
-    row
-}
-
-/// Makes row 0, the last row, one row or all padding rows undecodable.
-fn spoil_some(random: &mut Random, main: &mut [u64]) {
-    let (rows, which, one) = (main.len() / WIDTH, random.word() % 4, random.word() as usize);
-    for (r, row) in main.chunks_exact_mut(WIDTH).enumerate() {
-        if [r == 0, r == rows - 1, r == one % rows, row[IS_PADDING] == 1][which as usize] {
-            spoil(random, row);
-        }
-    }
-}
-
-/// Rows of one flavour, some of them repeated; the last ones may be padding. Of two tables one decodes throughout, of four one does
-/// but for some rows.
-fn table(random: &mut Random, rows: usize) -> Vec<u64> {
-    let (flavour, repeating) = (random.word(), random.word() % 4 == 0);
-    let mut main: Vec<u64> = vec![];
-    for index in 0..rows {
-        let next = match main.len().checked_sub(WIDTH) {
-            Some(last) if repeating && random.word() % 2 == 0 => main[last..].to_vec(),
-            _ => row(random, flavour, index),
-        };
-        main.extend(next);
-    }
-    if rows >= 2 && random.word() % 3 == 0 {
-        plain::pad(&mut main, random.word() as usize % rows + 1);
-    }
-    let decodability = random.word() % 4;
-    if decodability < 3 {
-        mend(random, &mut main);
-    }
-    if decodability == 2 {
-        spoil_some(random, &mut main);
-    }
-    main
-}
-
-/// Mostly words below p; sometimes small elements, so that entries coincide and denominators vanish.
-pub fn challenges(random: &mut Random) -> Vec<u64> {
-    let flavour = random.word() % 8;
-    (0..RECORD).map(|k| if flavour < 2 && k % 3 > 0 { 0 } else { word(random, if flavour < 3 { flavour } else { 0 }) }).collect()
-}
-
 impl Case {
-    fn new(main: Vec<u64>, challenges: Vec<u64>) -> Case {
-        let rows = main.len() / WIDTH;
-        Case { main, challenges, aux: rows * AUX_WIDTH, work: None }
-    }
-
-    fn random(random: &mut Random, rows: usize) -> Case {
-        Case::new(table(random, rows), challenges(random))
-    }
-
-    /// A table that no refusal of ordinary extension covers, but for one chance in 2^100.
-    fn sound(random: &mut Random, rows: usize) -> Case {
-        let challenges = (0..RECORD).map(|_| random.word() % P).collect();
-        Case::new(table(random, rows), challenges)
-    }
-
-    fn rows(&self) -> usize {
-        self.main.len() / WIDTH
-    }
-
-    /// The elements of a column's entries.
-    fn elements(&self, column: usize) -> Vec<Element> {
-        let challenges = Challenges(&self.challenges);
-        match COLUMNS[column].1 {
-            Kind::Evaluation(entries) | Kind::Product(entries) => by_row(entries, &self.main, challenges).concat(),
-            Kind::Lookup(entries) => by_row(entries, &self.main, challenges).concat().iter().map(|fraction| fraction.1).collect(),
-        }
-    }
-
-    /// Makes the column's indeterminate the element.
-    fn aim(&mut self, column: usize, element: Element) {
-        let id = COLUMNS[column].0;
-        self.challenges[3 * id..3 * id + 3].copy_from_slice(&element);
-    }
-
-    /// Makes the indeterminate of a lookup or product column the element of one of its entries, if it has one.
-    fn aim_at_an_entry(&mut self, random: &mut Random, column: usize) {
-        let elements = self.elements(column);
-        if !elements.is_empty() {
-            self.aim(column, elements[random.word() as usize % elements.len()]);
-        }
-    }
-
-    /// Makes the denominator of row 0's clock zero.
-    fn vanish(&mut self) {
-        (self.main[CLK], self.main[MULTIPLICITY]) = (7, 1);
-        self.aim(CLOCK, [7, 0, 0]);
-    }
-
-    /// The cells, if there are any: plainly and batched, or only batched where the table is tall.
-    fn cells(&self, tally: &mut Tally, random: &mut Random) -> Option<Vec<u64>> {
-        let mut aux = any_words(random, self.aux);
-        let before = aux.clone();
-        let batched = extend_batched(&self.main, &self.challenges, &mut aux);
-        if self.rows() > 100 {
-            return batched.then_some(aux);
-        }
-        let cells = extend_plain(&self.main, &self.challenges);
-        if batched != cells.is_some() || aux != *cells.as_ref().unwrap_or(&before) {
-            tally.differ(format!("extend_batched, {} rows: not the plain cells", self.rows()));
-        }
-        cells
-    }
-
     /// Every number and every lent slice, at each chunk length; answers the last numbers that were expected.
     fn check(&self, tallies: &mut Tallies, random: &mut Random, chunks: &[usize]) -> [u32; 2] {
+        self.check_lent(tallies, random, chunks, self.aux(), None)
+    }
+
+    /// The same with slices of these lengths for columns and work, of that only where it is not to be the right one.
+    fn check_lent(&self, tallies: &mut Tallies, random: &mut Random, chunks: &[usize], aux: usize, work: Option<usize>) -> [u32; 2] {
         let rows = self.rows();
-        let refused = |chunk, work| refusal(&self.main, &self.challenges, chunk, self.aux, work);
+        let refused = |chunk, work| refusal(&self.main, &self.challenges, chunk, aux, work);
         let undecodable = undecodable(&self.main);
         let cells = if refused(1, work_len(rows, 1)) == 0 { self.cells(&mut tallies[0], random) } else { None };
         let mut numbers = [0; 2];
@@ -199,20 +36,20 @@ impl Case {
                 })
             };
             let right = work_len(rows, chunk);
-            let length = self.work.unwrap_or(right);
+            let length = work.unwrap_or(right);
             numbers = answers(length);
             if numbers[STRICT] == 11 {
                 self.count_places(tallies, &undecodable);
             }
             for (k, (name, extend)) in EXTENSIONS.into_iter().enumerate() {
                 count(&mut tallies[k], rows, chunk, length, numbers[k], answers(right)[k]);
-                let (mut aux, mut work) = (any_words(random, self.aux), any_words(random, length));
-                let lent = |aux: &[u64], work: &[u64]| [aux, work, &self.main, &self.challenges].concat();
-                let before = lent(&aux, &work);
+                let (mut columns, mut work) = (any_words(random, aux), any_words(random, length));
+                let lent = |columns: &[u64], work: &[u64]| [columns, work, &self.main, &self.challenges].concat();
+                let before = lent(&columns, &work);
                 let expected = cells.as_ref().map_or(vec![], |cells| lent(cells, &vec![0; length]));
-                let got = extend(&self.main, &self.challenges, chunk, &mut aux, &mut work);
-                let shape = [self.main.len(), self.challenges.len(), chunk, self.aux, length].map(|n| n as u64);
-                tallies[k].check(name, &shape, &before, (got, &lent(&aux, &work)), numbers[k], &expected);
+                let got = extend(&self.main, &self.challenges, chunk, &mut columns, &mut work);
+                let shape = [self.main.len(), self.challenges.len(), chunk, aux, length].map(|n| n as u64);
+                tallies[k].check(name, &shape, &before, (got, &lent(&columns, &work)), numbers[k], &expected);
             }
         }
         numbers
@@ -246,7 +83,7 @@ fn lengths(tallies: &mut Tallies, random: &mut Random) {
         for change in [-39, -33, -6, -3, -2, -1, 1, 2, 3, 6, 33, 39, 78, i64::MIN] {
             let changed = |length: usize| (length as i64).saturating_add(change).max(0) as usize;
             for slices in 1..16 {
-                let mut case = whole.clone();
+                let (mut case, mut aux, mut work) = (whole.clone(), whole.aux(), None);
                 if slices & 1 != 0 {
                     case.main.extend(&spare);
                     case.main.truncate(changed(whole.main.len()));
@@ -256,12 +93,12 @@ fn lengths(tallies: &mut Tallies, random: &mut Random) {
                     case.challenges.truncate(changed(RECORD));
                 }
                 if slices & 4 != 0 {
-                    case.aux = changed(whole.aux);
+                    aux = changed(aux);
                 }
                 if slices & 8 != 0 {
-                    case.work = Some(changed(work_len(rows, 2)));
+                    work = Some(changed(work_len(rows, 2)));
                 }
-                case.check(tallies, random, &[2, 0]);
+                case.check_lent(tallies, random, &[2, 0], aux, work);
             }
         }
     }
@@ -276,13 +113,12 @@ fn works(tallies: &mut Tallies, random: &mut Random) {
         bad.main[random.word() as usize % (rows * WIDTH)] = P + random.word() % 3;
         spoil_some(random, &mut spoiled.main);
         zero.vanish();
-        for mut case in [sound, bad, spoiled, zero] {
+        for case in [sound, bad, spoiled, zero] {
             case.check(tallies, random, &CHUNKS.map(|(_, chunk)| chunk(rows)));
             for (_, chunk) in CHUNKS {
                 let chunk = chunk(rows);
                 for (_, work) in WORKS {
-                    case.work = Some(work(rows, chunk));
-                    case.check(tallies, random, &[chunk, 0]);
+                    case.check_lent(tallies, random, &[chunk, 0], case.aux(), Some(work(rows, chunk)));
                 }
             }
         }
@@ -325,21 +161,21 @@ fn several_faults(tallies: &mut Tallies, random: &mut Random) {
             words[place] = P + random.word() % 3;
         }
         let chunk = if no_chunk { 0 } else { 1 + random.word() as usize % 7 };
-        if work {
-            case.work = Some(work_len(case.rows(), chunk) + 1 + random.word() as usize % 12);
-        }
+        let wrong_work = work.then(|| work_len(case.rows(), chunk) + 1 + random.word() as usize % 12);
+        let mut aux = case.aux();
         if length {
             match random.word() % 3 {
                 0 => case.main.push(0),
                 1 => drop(case.challenges.pop()),
-                _ => case.aux += AUX_WIDTH,
+                _ => aux += AUX_WIDTH,
             }
         }
         let first = |strict: bool| {
             let faults = [(length, 1), (no_rows, 3), (no_chunk, 5), (work, 1), (bad, 2), (spoiled && strict, 11), (zero, 6)];
             faults.into_iter().find(|fault| fault.0).map_or(0, |fault| fault.1)
         };
-        let (meant, due) = (case.check(tallies, random, &[chunk]), [first(false), first(true)]);
+        let meant = case.check_lent(tallies, random, &[chunk], aux, wrong_work);
+        let due = [first(false), first(true)];
         if meant != due {
             tallies[STRICT].differ(format!("extend, {} rows: a case for {due:?} is one for {meant:?}", case.rows()));
         }
@@ -368,21 +204,10 @@ fn zero_denominators(tallies: &mut Tallies, random: &mut Random) {
                 case.expect(tallies, random, 1 + round % 11, 6);
             }
         }
-        let clocks = case.elements(CLOCK);
-        for clk in case.main.chunks_exact(WIDTH).filter(|row| row[MULTIPLICITY] == 0).map(|row| [row[CLK], 0, 0]) {
-            if !clocks.contains(&clk) {
+        for column in [CLOCK, INSTRUCTION] {
+            for element in case.silent(column) {
                 let mut case = case.clone();
-                case.aim(CLOCK, clk);
-                case.expect(tallies, random, 1 + round % 11, 0);
-            }
-        }
-        let mut unpadded = case.clone();
-        unpadded.main.chunks_exact_mut(WIDTH).for_each(|row| row[IS_PADDING] = 0);
-        let instructions = case.elements(INSTRUCTION);
-        for element in unpadded.elements(INSTRUCTION) {
-            if !instructions.contains(&element) {
-                let mut case = case.clone();
-                case.aim(INSTRUCTION, element);
+                case.aim(column, element);
                 case.expect(tallies, random, 1 + round % 11, 0);
             }
         }
@@ -436,8 +261,8 @@ pub fn compare(random: &mut Random, count: u64) -> bool {
             case.aim_at_an_entry(random, column);
         }
         let chunks = [(); 2].map(|()| any_chunk(random, rows));
-        case.work = other_work(random, rows, chunks[0]);
-        case.check(&mut tallies, random, &chunks);
+        let work = other_work(random, rows, chunks[0]);
+        case.check_lent(&mut tallies, random, &chunks, case.aux(), work);
     }
     for (rows, chunk) in [(1_000, 1), (1_000, 999), (5_000, 1_024), (20_000, 4_096), (20_000, usize::MAX)] {
         let mut case = Case::sound(random, rows);

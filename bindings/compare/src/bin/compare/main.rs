@@ -4,6 +4,8 @@
 
 mod arithmetic;
 mod batches;
+mod cases;
+mod checking;
 mod decoding;
 mod derived;
 mod extension;
@@ -32,6 +34,7 @@ fn main() {
         batches::compare(&mut random, count * 4),
         writing::compare(&mut random, count / 3),
         terminals::compare(&mut random, 4 + count / 10_000),
+        checking::compare(&mut random, count / 10),
     ];
     std::process::exit(if right.iter().all(|&r| r) { 0 } else { 1 });
 }

@@ -15,7 +15,7 @@ use tealbobbin::batch::{MAX_BYTES, MAX_DIFFERENCES, MAX_IO_WORDS, MAX_LOG2_HEIGH
 use tealbobbin::field::P;
 
 use crate::batches::{below, damage_bytes, words};
-use crate::extension::{challenges, row};
+use crate::cases::{challenges, row};
 
 /// What else is to be met.
 const WITHOUT: usize = HEIGHTS.len();

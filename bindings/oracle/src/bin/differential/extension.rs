@@ -94,9 +94,9 @@ fn pairs(tallies: &mut Tallies, random: &mut Random) {
     }
 }
 
-/// A column's indeterminate set to one of its entries: a zero denominator or a factor 0. Or to what a row that is silent would
-/// enter into the instruction or clock column.
-fn zeros(tallies: &mut Tallies, random: &mut Random) {
+/// A table, and challenges with a column's indeterminate set to one of its entries: a zero denominator or a factor 0. Or to what a row
+/// that is silent would enter into the instruction or clock column. Nothing if the row drawn has no entry.
+pub fn aimed(random: &mut Random) -> Option<(Vec<u64>, Vec<u64>)> {
     let rows = random.word() as usize % 20 + 1;
     let mut main = any_table(random, rows);
     let mut challenges = challenges(random);
@@ -111,11 +111,11 @@ fn zeros(tallies: &mut Tallies, random: &mut Random) {
     let previous = (at > 0).then(|| &main[(at - 1) * WIDTH..at * WIDTH]);
     let found = symbols(column, previous, &speaking, &challenges);
     if found.is_empty() {
-        return;
+        return None;
     }
     let element = found[random.word() as usize % found.len()];
     challenges[3 * COLUMNS[column].0..][..3].copy_from_slice(&element);
-    check(tallies, random, &main, &challenges);
+    Some((main, challenges))
 }
 
 /// One table at every chunk length, with the right length of work and with wrong ones.
@@ -189,7 +189,9 @@ pub fn compare(random: &mut Random, count: u64, rows_compared: &mut u64) -> bool
         let main = any_table(random, i as usize % 256 + 1);
         any_check(&mut tallies, random, &main);
         for _ in 0..10 {
-            zeros(&mut tallies, random);
+            if let Some((main, challenges)) = aimed(random) {
+                check(&mut tallies, random, &main, &challenges);
+            }
         }
     }
     for rows in [1023, 1024, 1025, 4095, 4096, 4097, 5000, 16_384, 65_536] {

@@ -2,6 +2,7 @@
 //!
 //!     differential [SEED] [COUNT]
 
+mod checking;
 mod claims;
 mod constraints;
 mod decoding;
@@ -35,6 +36,7 @@ fn main() {
         constraints::compare(&mut random),
         montgomery::compare(&mut random, count),
         terminals::compare(&mut random, count / 1_000, &mut rows),
+        checking::compare(&mut random, count / 20, &mut rows),
     ];
     println!("{rows} rows of tables compared in all");
     std::process::exit(if right.iter().all(|&r| r) { 0 } else { 1 });

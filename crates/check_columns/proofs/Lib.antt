@@ -1,0 +1,2 @@
+-- The check's tests in their order.
+pub mod Stages

@@ -1,0 +1,33 @@
+-- What the check answers, where `verdict` has one word.
+use borrow.Author.Needs.{needs}
+use borrow.Author.Tests.{eq-eqb, ne-eqb}
+use mathlib.Core.Path.{ap, _∙_}
+use Rattle.tealbobbin_answers.specs.Check.{checkNumber, checkWritten}
+use Rattle.tealbobbin.proofs.tealbobbin_check.Statement.{statement}
+use Rattle.tealbobbin.proofs.tealbobbin_check.Tie as tie
+
+returns : tie.Need-returns
+returns c = let e = ne-eqb _ 1 (c .if1 .taken) in (rw e, rw e)
+
+check-requires : tie.Need-check-requires
+check-requires c κs = search needs
+
+put-verdict-requires : tie.Need-put-verdict-requires
+put-verdict-requires c κs = search needs
+
+same-length : tie.Need-same-length
+same-length c = search needs
+
+returns-2 : tie.Need-returns-2
+returns-2 c =
+    let put = c .before .before in
+    let checked = put .before .before in
+    let tested = checked .before in
+    let verdict = tested .before .before .before .before .before .args .verdict .now in
+    let e = eq-eqb _ 1 (tested .if1 .left) in (
+      rw e (put .put-verdict .ensures .0 ∙ ap checkNumber (checked .check .ensures)),
+      rw e (put .put-verdict .ensures .1 ∙ ap (checkWritten 1 verdict) (checked .check .ensures)),
+    )
+
+pub tealbobbin-check-spec : {M : Type 1} → statement M
+tealbobbin-check-spec = tie.close (tie.spec returns check-requires put-verdict-requires same-length returns-2)
