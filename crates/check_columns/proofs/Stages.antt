@@ -39,7 +39,7 @@ pub record Passed (main challenges offered : List ℕ) : Type 0 where
   pub offered-below : allBelow offered ≡ true
   pub no-zero : zeroDenominator main challenges ≡ false
 
-abbrev refuses : CheckAnswer → Bool
+abbrev pub refuses : CheckAnswer → Bool
 refuses (Checked v) = false
 refuses (Refused r) = true
 

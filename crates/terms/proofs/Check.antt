@@ -1,7 +1,7 @@
 -- The check says yes exactly to extension's columns, and refuses what extension refuses.
 use mathlib.Core.Path.{_≡_, refl, sym, ap, _∙_}
 use mathlib.Core.Bool.{Bool, true, false, cond, not, _&&_, and-true, false≢true}
-use mathlib.Core.List.{List, [], _∷_, _++_}
+use mathlib.Core.List.{List, [], _∷_}
 use Prim.Native.Nat.{ℕ, zero, suc, _+_, _-_, _*_, _/_, _%_, _<_}
 use native.Mathlib.Nat.{add-zero}
 use native.Mathlib.Omega.{arith}
@@ -23,7 +23,7 @@ use Rattle.table_rows.proofs.Rows.{length-rows}
 use Rattle.column_entries.specs.Columns.{Column, columns, running, cell}
 use Rattle.column_entries.specs.AuxRow.{placeOf, placed, auxRow}
 use Rattle.column_entries.specs.Denominators.{zeroDenominator}
-use Rattle.column_entries.proofs.AuxRow.{length-row}
+use Rattle.column_entries.proofs.AuxRow.{gathered, length-row}
 use Rattle.column_steps.proofs.Steps.{running-canonical}
 use Rattle.extend_table.specs.Extended.{cellsOfRow, extended}
 use Rattle.extend_answer.specs.Answer.{extendAnswer}
@@ -40,7 +40,7 @@ use Rattle.check_relations.proofs.Place.{column-at, all-hold, first-place}
 use Rattle.check_columns.specs.Check.{checkAnswer}
 use Rattle.check_columns.specs.declared.CheckAnswer.{CheckAnswer}
 use Rattle.check_columns.specs.declared.CheckAnswer.the-variants.{Checked, Refused}
-use Rattle.check_columns.proofs.Stages.{Passed, passed, verdict-is, to-verdict}
+use Rattle.check_columns.proofs.Stages.{refuses, Passed, passed, verdict-is, to-verdict}
 use Rattle.terms.specs.Check.{Lent, Check}
 use Rattle.terms.proofs.Cells.{cell-at}
 
@@ -50,14 +50,10 @@ module _ (main challenges : List ℕ) where
   unfolding extended
   extended-long = length-rows 33 (cellsOfRow challenges main) 0 (rows main) (λ r l h. length-row (λ c. cell c challenges main r))
 
-  abbrev words : (Column → XFieldElement) → List Column → List ℕ
-  words value [] = []
-  words value (c ∷ cs) = wordsOf (value c) ++ words value cs
-
-  words-below : (value : Column → XFieldElement) → ((c : Column) → Canonical (value c)) → (cs : List Column) → allBelow (words value cs) ≡ true
+  words-below : (value : Column → XFieldElement) → ((c : Column) → Canonical (value c)) → (cs : List Column) → allBelow (gathered value cs) ≡ true
   unfolding allBelow
   words-below value h [] = refl
-  words-below value h (c ∷ cs) = below-append (wordsOf (value c)) (words value cs) (canonical-below (h c)) (words-below value h cs)
+  words-below value h (c ∷ cs) = below-append (wordsOf (value c)) (gathered value cs) (canonical-below (h c)) (words-below value h cs)
 
   row-below : (value : Column → XFieldElement) → ((c : Column) → Canonical (value c)) → allBelow (auxRow value) ≡ true
   unfolding auxRow placed
@@ -161,10 +157,6 @@ by-tests false false false false v = refl
 abbrev refusalIn : CheckAnswer → Refusal
 refusalIn (Checked v) = SliceLength
 refusalIn (Refused r) = r
-
-abbrev refuses : CheckAnswer → Bool
-refuses (Checked v) = false
-refuses (Refused r) = true
 
 refused-both : (a : Answer) (v : Verdict) (r : Refusal) → asChecked a v ≡ Refused r → a ≡ answer.Refused r
 refused-both answer.Done v r e = absurd (false≢true (ap refuses e))
