@@ -1,2 +1,3 @@
 -- From tests to answers.
 pub mod Answers
+pub mod First
