@@ -102,7 +102,7 @@ const INSTRUCTIONS: [u8; 89 * 17] = *b"\
     xb_dot_step      ";
 
 // In the order of `main_columns`.
-const MAIN_COLUMNS: [u8; 39 * 37] = *b"\
+const MAIN_COLUMNS: [u8; MainIndex::COUNT * 37] = *b"\
     CLK                                  \
     IsPadding                            \
     IP                                   \
@@ -188,7 +188,7 @@ fn main_columns() -> [usize; MainIndex::COUNT] {
 }
 
 // In the order of `aux_columns`.
-const AUX_COLUMNS: [u8; 11 * 44] = *b"\
+const AUX_COLUMNS: [u8; AuxIndex::COUNT * 44] = *b"\
     InputTableEvalArg                           \
     OutputTableEvalArg                          \
     InstructionLookupClientLogDerivative        \
@@ -218,7 +218,7 @@ fn aux_columns() -> [usize; AuxIndex::COUNT] {
 }
 
 // In the order of `challenges`.
-const CHALLENGES: [u8; 63 * 43] = *b"\
+const CHALLENGES: [u8; ChallengeId::COUNT * 43] = *b"\
     CompressProgramDigestIndeterminate         \
     StandardInputIndeterminate                 \
     StandardOutputIndeterminate                \

@@ -1,10 +1,10 @@
 -- Open: the answer, and what each lent slice holds then.
-use mathlib.Core.Bool.{Bool, cond, not, _&&_, _||_}
+use mathlib.Core.Bool.{Bool, not, _&&_, _||_}
 use mathlib.Core.List.{List, [], _∷_}
 use Prim.Native.Nat.{ℕ, _*_}
 use lib.Dec.{eqb, ltb}
 use lib.ListN.{length}
-use Rattle.refusal.specs.Number.{numberOf}
+use Rattle.refusal.specs.Tests.{_when_, firstOr, numberOf}
 use Rattle.refusal.specs.declared.Refusal.the-variants.{SliceLength}
 use Rattle.air.specs.MainColumn.{MAIN-WIDTH}
 use Rattle.air.specs.ChallengeId.{SAMPLED-WORDS, DIGEST-WORDS}
@@ -44,7 +44,8 @@ rightLengths trace op-stack ram jump-stack sampled digest input output =
 unfoldable pub openAnswer : List ℕ → ℕ → ℕ → ℕ → ℕ → ℕ → ℕ → ℕ → ℕ → OpenAnswer
 unfolding reading
 openAnswer batch trace op-stack ram jump-stack sampled digest input output =
-    cond (ltb MAX-BYTES (length batch) || not (rightLengths trace op-stack ram jump-stack sampled digest input output)) (Refused SliceLength)
+    firstOr Refused
+    ((SliceLength when ltb MAX-BYTES (length batch) || not (rightLengths trace op-stack ram jump-stack sampled digest input output)) ∷ [])
     (answerOf (reading batch))
 
 -- what a slice holds after an answer

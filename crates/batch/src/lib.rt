@@ -1,4 +1,10 @@
 // Open: it decides on its answer first, and writes only then, section by section.
+use air::DIGEST_WORDS;
+use air::MainIndex;
+use air::SAMPLED_WORDS;
+use batch_commands::MAX_DIFFERENCES;
+use batch_commands::MAX_ROWS;
+use batch_commands::MAX_WORDS;
 use batch_reader::OpenAnswer;
 use batch_reader::read;
 use batch_reader::unchecked::put_rows;
@@ -14,6 +20,9 @@ ghost use Rattle.batch.specs.Open.{rightLengths, openAnswer, openSlice};
 
 // Longer batches are turned away unread.
 pub const MAX_LEN: usize = 16384;
+
+// Of the slice for the trace.
+pub const TRACE_WORDS: usize = MAX_ROWS * MainIndex::COUNT;
 
 // Where 01 ends, and where 0B does.
 const BEHIND_ROWS: usize = 5;
@@ -43,28 +52,28 @@ fn right_lengths(
 ) -> bool
     ensures { λ r. ⌜ r ≡ rightLengths trace «op_stack» ram «jump_stack» sampled digest input output ⌝ }
 {
-    if trace != 1248 {
+    if trace != TRACE_WORDS {
         return false;
     }
-    if op_stack != 128 {
+    if op_stack != MAX_DIFFERENCES {
         return false;
     }
-    if ram != 128 {
+    if ram != MAX_DIFFERENCES {
         return false;
     }
-    if jump_stack != 128 {
+    if jump_stack != MAX_DIFFERENCES {
         return false;
     }
-    if sampled != 177 {
+    if sampled != SAMPLED_WORDS {
         return false;
     }
-    if digest != 5 {
+    if digest != DIGEST_WORDS {
         return false;
     }
-    if input != 64 {
+    if input != MAX_WORDS {
         return false;
     }
-    output == 64
+    output == MAX_WORDS
 }
 
 // Reads the batch into the slices, or writes nothing where it refuses.

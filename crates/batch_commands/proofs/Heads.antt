@@ -10,7 +10,7 @@ use lib.Seq.{drop-cons}
 use borrow.Author.Tests.{leb-true, leb-false, lt-ltb, le-ltb}
 use Rattle.batch_commands.specs.declared.Head.{Head}
 use Rattle.batch_commands.specs.declared.Head.the-variants.{Unknown, CutOff, Whole}
-use Rattle.batch_commands.specs.Format.{COMMANDS, width}
+use Rattle.batch_commands.specs.Format.{known, width}
 use Rattle.batch_commands.specs.Fault.{headOf}
 
 not-leb-by : (a b : ℕ) (within : Bool) → leb a b ≡ within → not within ≡ ltb b a
@@ -24,5 +24,5 @@ not-leb a b = not-leb-by a b (leb a b) refl
 abbrev pub headBy : Bool → Bool → ℕ → Head
 headBy unknown short code = cond unknown Unknown (cond short CutOff (Whole code))
 
-pub head-there : (batch : List ℕ) (at : ℕ) → at < length batch → headOf (drop at batch) ≡ headBy (leb COMMANDS (getD batch at 0)) (ltb (length batch - (at + 1)) (width (getD batch at 0))) (getD batch at 0)
+pub head-there : (batch : List ℕ) (at : ℕ) → at < length batch → headOf (drop at batch) ≡ headBy (not (known (getD batch at 0))) (ltb (length batch - (at + 1)) (width (getD batch at 0))) (getD batch at 0)
 head-there batch at here = rw (drop-cons batch at 0 here, length-drop, add-one)

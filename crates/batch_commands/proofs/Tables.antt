@@ -1,26 +1,22 @@
 -- What holds of each command, by a table that is computed.
 use mathlib.Core.Path.{_≡_, refl, sym, ap, _∙_}
-use mathlib.Core.Bool.{Bool, true, false, cond, _&&_, _||_}
+use mathlib.Core.Bool.{Bool, true, false, cond, not, _&&_, _||_}
 use mathlib.Core.List.{List, [], _∷_, map}
-use Prim.Native.Nat.{ℕ, zero, suc, _+_, _≤_, _<_}
+use Prim.Native.Nat.{ℕ, zero, suc, _+_, _-_, _*_, _/_, _≤_, _<_}
 use native.Mathlib.Nat.{add-zero, zero-add, not-suc-le-zero}
 use native.Mathlib.Omega.{arith}
-use lib.Dec.{eqb, leb, lit<}
-use lib.ListN.{take, getD}
+use lib.Dec.{eqb, leb, ltb, lit<}
+use lib.ListN.{length, take, drop, getD}
 use lib.Seq.{take-take}
-use borrow.Author.Tests.{eqb-true, eqb-false, leb-true}
+use borrow.Author.Tests.{eqb-true, eqb-false, ne-eqb, leb-true, leb-false, ltb-true}
+use Rattle.batch_words.specs.Words.{words}
+use Rattle.batch_words.proofs.Bytes.{drop-take, words-within, length-words}
 use Rattle.field_base.proofs.Below.{and-true}
 use Rattle.refusal.proofs.Answers.{or-false}
 use Rattle.field_montgomery.specs.declared.Form.{Form}
 use Rattle.field_montgomery.specs.declared.Form.the-variants.{Plain, Montgomery}
-use Rattle.batch_commands.specs.Format.{ROW, OP-STACK, RAM, JUMP-STACK, MONTGOMERY-ROW, COMMANDS, width, rank, keyWidth, key}
+use Rattle.batch_commands.specs.Format.{ROW, OP-STACK, RAM, JUMP-STACK, MONTGOMERY-ROW, Line, lines, isIn, COMMANDS, from, known, said, width, wordsAt, wordCount, wordsIn, limit, keyWidth, rank, key}
 use Rattle.batch_commands.specs.Form.{rowCommand, OfForm}
-use Rattle.batch_commands.specs.Fault.{limit}
-
--- n numbers from a on
-abbrev pub from : ℕ → ℕ → List ℕ
-from a zero = []
-from a (suc n) = a ∷ from (suc a) n
 
 pub map-at : (f : ℕ → ℕ) (a n i : ℕ) → i < n → getD (map f (from a n)) i 0 ≡ f (a + i)
 map-at f a zero i l = absurd (not-suc-le-zero l)
@@ -30,24 +26,24 @@ map-at f a (suc n) (suc i) l =
     map-at f (suc a) n i (omega arith) ∙ ap f e
 
 -- an arm of a match on a command
-pub arm : (f : ℕ → ℕ) {code k : ℕ} → code ≡ k → f k ≡ f code
+pub arm : {A : Type 0} (f : ℕ → A) {code k : ℕ} → code ≡ k → f k ≡ f code
 arm f e = ap f (sym e)
 
--- the arm for the rest
+-- no command is left for the rest
 up : (k code : ℕ) → k ≤ code → (code ≡ k → ⊥) → suc k ≤ code
 up k code l n = omega arith
 
-below : (code : ℕ) → 10 ≤ code → code < COMMANDS → (code ≡ 11 → ⊥) → code ≡ 10
-below code u l other = omega arith
-
 abbrev Others : ℕ → Type 0
-Others code = ((((((((((Unit × (code ≡ 0 → ⊥)) × (code ≡ 1 → ⊥)) × (code ≡ 2 → ⊥)) × (code ≡ 3 → ⊥)) × (code ≡ 4 → ⊥)) × (code ≡ 5 → ⊥)) × (code ≡ 6 → ⊥)) × (code ≡ 7 → ⊥)) × (code ≡ 8 → ⊥)) × (code ≡ 9 → ⊥)) × (code ≡ 11 → ⊥)
+Others code = (((((((((((Unit × (code ≡ 0 → ⊥)) × (code ≡ 1 → ⊥)) × (code ≡ 2 → ⊥)) × (code ≡ 3 → ⊥)) × (code ≡ 4 → ⊥)) × (code ≡ 5 → ⊥)) × (code ≡ 6 → ⊥)) × (code ≡ 7 → ⊥)) × (code ≡ 8 → ⊥)) × (code ≡ 9 → ⊥)) × (code ≡ 11 → ⊥)) × (code ≡ 10 → ⊥)
 
-pub last : (code : ℕ) → code < COMMANDS → Others code → code ≡ 10
-last code l n =
+none-left : (code : ℕ) → 10 ≤ code → code < COMMANDS → (code ≡ 11 → ⊥) → (code ≡ 10 → ⊥) → ⊥
+none-left code u l n m = omega arith
+
+pub no-other : (code : ℕ) → code < COMMANDS → Others code → ⊥
+no-other code l n =
     let u = up 9 code (up 8 code (up 7 code (up 6 code (up 5 code (up 4 code (up 3 code (up 2 code (up 1 code (up 0 code (omega arith)
-    (n .0 .0 .0 .0 .0 .0 .0 .0 .0 .0 .1)) (n .0 .0 .0 .0 .0 .0 .0 .0 .0 .1)) (n .0 .0 .0 .0 .0 .0 .0 .0 .1)) (n .0 .0 .0 .0 .0 .0 .0 .1)) (n .0 .0 .0 .0 .0 .0 .1)) (n .0 .0 .0 .0 .0 .1)) (n .0 .0 .0 .0 .1)) (n .0 .0 .0 .1)) (n .0 .0 .1)) (n .0 .1) in
-    below code u l (n .1)
+    (n .0 .0 .0 .0 .0 .0 .0 .0 .0 .0 .0 .1)) (n .0 .0 .0 .0 .0 .0 .0 .0 .0 .0 .1)) (n .0 .0 .0 .0 .0 .0 .0 .0 .0 .1)) (n .0 .0 .0 .0 .0 .0 .0 .0 .1)) (n .0 .0 .0 .0 .0 .0 .0 .1)) (n .0 .0 .0 .0 .0 .0 .1)) (n .0 .0 .0 .0 .0 .1)) (n .0 .0 .0 .0 .1)) (n .0 .0 .0 .1)) (n .0 .0 .1) in
+    none-left code u l (n .0 .1) (n .1)
 
 -- P of each of n numbers from a on
 abbrev pub Each : (ℕ → Type 0) → ℕ → ℕ → Type 0
@@ -75,6 +71,25 @@ each-tested test a (suc n) e = let h = and-true (test a) (tested test (suc a) n)
 
 pub of-test : (test : ℕ → Bool) → tested test 0 COMMANDS ≡ true → (code : ℕ) → code < COMMANDS → test code ≡ true
 of-test test e = of-each (λ code. test code ≡ true) (each-tested test 0 COMMANDS e)
+
+-- the commands are the bytes below
+abbrev allBelow : List Line → Bool
+allBelow [] = true
+allBelow (line ∷ others) = ltb (line .byte) COMMANDS && allBelow others
+
+not-in : (code : ℕ) (others : List Line) → COMMANDS ≤ code → allBelow others ≡ true → isIn code others ≡ false
+not-in code [] l e = refl
+not-in code (line ∷ others) l e =
+    let h = and-true (ltb (line .byte) COMMANDS) (allBelow others) e in
+    let b = ltb-true (line .byte) COMMANDS (h .0) in
+    rw (ne-eqb code (line .byte) (λ q. omega arith), not-in code others l (h .1))
+
+unknown-by : (code : ℕ) (past : Bool) → leb COMMANDS code ≡ past → not (known code) ≡ past
+unknown-by code true e = ap not (not-in code lines (leb-true COMMANDS code e) refl)
+unknown-by code false e = ap not (of-test known refl code (leb-false COMMANDS code e))
+
+pub unknown : (code : ℕ) → not (known code) ≡ leb COMMANDS code
+unknown code = unknown-by code (leb COMMANDS code) refl
 
 -- the command at a rank; of the rows' two, 02
 abbrev atRank : ℕ → ℕ
@@ -142,3 +157,33 @@ keyless code l n =
 pub key-within : (code : ℕ) (bytes : List ℕ) → code < COMMANDS → key code (take (width code) bytes) ≡ key code bytes
 unfolding key
 key-within code bytes l = rw (take-take (keyWidth code) (width code) bytes (leb-true (keyWidth code) (width code) (of-test (λ c. leb (keyWidth c) (width c)) refl code l)))
+
+-- and so do the words
+pub words-within-operand : (code : ℕ) (bytes : List ℕ) → code < COMMANDS → wordsIn code (take (width code) bytes) ≡ wordsIn code bytes
+words-within-operand code bytes l =
+    let fits = leb-true (wordsAt code + 8 * wordCount code) (width code) (of-test (λ c. leb (wordsAt c + 8 * wordCount c) (width c)) refl code l) in
+    let e : width code ≡ wordsAt code + (width code - wordsAt code) = omega arith in
+    let rest : drop (wordsAt code) (take (width code) bytes) ≡ take (width code - wordsAt code) (drop (wordsAt code) bytes) = ap (λ n. drop (wordsAt code) (take n bytes)) e ∙ drop-take (wordsAt code) (width code - wordsAt code) bytes in
+    ap (words (wordCount code)) rest ∙ words-within (wordCount code) (width code - wordsAt code) (drop (wordsAt code) bytes) (omega arith)
+
+unsaid : (column : Line → ℕ) (code : ℕ) (others : List Line) → isIn code others ≡ false → said column code others ≡ 0
+unsaid column code [] e = refl
+unsaid column code (line ∷ others) e = let h = or-false (eqb code (line .byte)) (isIn code others) e in rw (h .0) (unsaid column code others (h .1))
+
+-- an operand that has words has nothing else
+words-by : (code : ℕ) (past : Bool) → leb COMMANDS code ≡ past → (wordsAt code ≡ 0) × (wordCount code ≡ width code / 8)
+words-by code true e =
+    let none = not-in code lines (leb-true COMMANDS code e) refl in
+    let w : width code ≡ 0 = unsaid (λ line. line .width) code lines none in
+    (unsaid (λ line. line .words-at) code lines none, unsaid (λ line. line .words) code lines none ∙ sym (ap (λ n. n / 8) w))
+words-by code false e =
+    let h = and-true (eqb (wordsAt code) 0) (eqb (wordCount code) (width code / 8)) (of-test (λ c. eqb (wordsAt c) 0 && eqb (wordCount c) (width c / 8)) refl code (leb-false COMMANDS code e)) in
+    (eqb-true (wordsAt code) 0 (h .0), eqb-true (wordCount code) (width code / 8) (h .1))
+
+pub all-words : (code : ℕ) (bytes : List ℕ) → wordsIn code bytes ≡ words (width code / 8) bytes
+all-words code bytes =
+    let h = words-by code (leb COMMANDS code) refl in
+    ap (λ n. words n (drop (wordsAt code) bytes)) (h .1) ∙ ap (λ n. words (width code / 8) (drop n bytes)) (h .0)
+
+pub length-words-in : (code : ℕ) (bytes : List ℕ) → length (wordsIn code bytes) ≡ width code / 8
+length-words-in code bytes = ap length (all-words code bytes) ∙ length-words (width code / 8) bytes

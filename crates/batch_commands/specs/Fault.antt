@@ -6,20 +6,16 @@ use lib.Dec.{eqb, leb, ltb}
 use lib.ListN.{length, take, getD}
 use Rattle.field_base.specs.Words.{allBelow}
 use Rattle.refusal.specs.declared.Answer.{Answer}
-use Rattle.refusal.specs.declared.Answer.the-variants.{Done, Refused}
 use Rattle.refusal.specs.declared.Refusal.the-variants.{UnknownCommand, BatchCutOff, CommandOutOfPlace, CommandOutOfOrder, RowCount, HeightOutOfRange, WordNotBelowP}
+use Rattle.refusal.specs.Tests.{Tests, _when_, _unless_, first}
 use Rattle.batch_commands.specs.declared.Seen.{Seen}
 use Rattle.batch_commands.specs.declared.Head.{Head}
 use Rattle.batch_commands.specs.declared.Head.the-variants.{Unknown, CutOff, Whole}
 use Rattle.batch_words.specs.Words.{number, words}
 use Rattle.field_montgomery.specs.declared.Form.{Form}
 use Rattle.field_montgomery.specs.declared.Form.the-variants.{Plain, Montgomery}
-use Rattle.batch_commands.specs.Format.{END, TRACE-ROWS, ROW, SAMPLED, DIGEST, MONTGOMERY-ROW, HEIGHT, COMMANDS, width, wordsIn, rank, key, MAX-ROWS, MAX-DIFFERENCES, MAX-WORDS, MAX-LOG-2-HEIGHT}
+use Rattle.batch_commands.specs.Format.{END, TRACE-ROWS, ROW, SAMPLED, DIGEST, MONTGOMERY-ROW, HEIGHT, MAX-ROWS, MAX-LOG-2-HEIGHT, known, width, wordsIn, limit, rank, key}
 use Rattle.batch_commands.specs.Form.{rowCommand}
-
--- how often a command may stand: "06 and 07 once each", 01 too, 0B "at most once", and as many rows as 01 announced
-abbrev pub limit : ℕ → ℕ → ℕ
-limit rows code = getD (1 ∷ 1 ∷ rows ∷ MAX-DIFFERENCES ∷ MAX-DIFFERENCES ∷ MAX-DIFFERENCES ∷ 1 ∷ 1 ∷ MAX-WORDS ∷ MAX-WORDS ∷ rows ∷ 1 ∷ []) code 0
 
 -- the form of the rows that came, and how many they are, where `came` says how often each command came, by its byte
 abbrev pub formIn : List ℕ → Form
@@ -62,25 +58,28 @@ abbrev pub outOfOrder : Seen → ℕ → List ℕ → Bool
 outOfOrder seen code operand = ltb (rank code) (seen .rank) || (eqb (rank code) (seen .rank) && ltb (key code operand) (seen .key))
 
 -- "9 (also past a count), 3, 2", 10 "after 9 and before 3", and 12 "in the place of 3", where `bytes` begins with the operand
+abbrev pub judgeTests : Seen → ℕ → List ℕ → Tests
+judgeTests seen code bytes =
+    (CommandOutOfPlace when outOfPlace (seen .rows) (seen .came) code (length bytes - width code))
+    ∷ (CommandOutOfOrder when outOfOrder seen code bytes)
+    ∷ (RowCount when wrongRowCount code (take (width code) bytes))
+    ∷ (HeightOutOfRange when heightOutOfRange (seen .rows) code (take (width code) bytes))
+    ∷ (WordNotBelowP unless allBelow (wordsIn code bytes))
+    ∷ []
+
 unfoldable pub judged : Seen → ℕ → List ℕ → Answer
 unfolding number words allBelow key
-judged seen code bytes =
-    cond (outOfPlace (seen .rows) (seen .came) code (length bytes - width code)) (Refused CommandOutOfPlace)
-    (cond (outOfOrder seen code bytes) (Refused CommandOutOfOrder)
-    (cond (wrongRowCount code (take (width code) bytes)) (Refused RowCount)
-    (cond (heightOutOfRange (seen .rows) code (take (width code) bytes)) (Refused HeightOutOfRange)
-    (cond (not (allBelow (wordsIn code bytes))) (Refused WordNotBelowP)
-    Done))))
+judged seen code bytes = first (judgeTests seen code bytes)
 
 -- "left to right, per command: 7, 8, 9 (also past a count), 3, 2"
+abbrev pub faultTests : Seen → ℕ → List ℕ → Tests
+faultTests seen code bytes = (UnknownCommand unless known code) ∷ (BatchCutOff when ltb (length bytes) (width code)) ∷ judgeTests seen code bytes
+
 unfoldable pub fault : Seen → ℕ → List ℕ → Answer
-unfolding judged
-fault seen code bytes =
-    cond (leb COMMANDS code) (Refused UnknownCommand)
-    (cond (ltb (length bytes) (width code)) (Refused BatchCutOff)
-    (judged seen code bytes))
+unfolding number words allBelow key
+fault seen code bytes = first (faultTests seen code bytes)
 
 -- what the bytes from a place on begin with
 abbrev pub headOf : List ℕ → Head
 headOf [] = CutOff
-headOf (code ∷ bytes) = cond (leb COMMANDS code) Unknown (cond (ltb (length bytes) (width code)) CutOff (Whole code))
+headOf (code ∷ bytes) = cond (not (known code)) Unknown (cond (ltb (length bytes) (width code)) CutOff (Whole code))

@@ -35,6 +35,13 @@ pub const HEIGHT: usize = 11;
 // How many commands there are.
 pub const COUNT: usize = 12;
 
+// The most rows, differences of a list, and words of input or of output.
+pub const MAX_ROWS: usize = 32;
+
+pub const MAX_DIFFERENCES: usize = 128;
+
+pub const MAX_WORDS: usize = 64;
+
 const MAX_LOG2_HEIGHT: usize = 22;
 
 // The command of a row in the form.
@@ -58,6 +65,16 @@ pub fn wrong_height(rows: usize, log2_height: usize) -> bool
         return true;
     }
     1 << log2_height < rows
+}
+
+// What is fixed of a command.
+pub struct Fixed {
+    pub width: usize,
+    pub words_at: usize,
+    pub words: usize,
+    pub limit: usize,
+    pub rank: usize,
+    pub key: usize,
 }
 
 // What counts for a command of those before it.

@@ -1,6 +1,10 @@
 // A command whose operand stands whole at a place of the batch.
+use crate::Fixed;
 use crate::Seen;
 use crate::wrong_height;
+use air::DIGEST_WORDS;
+use air::MainIndex;
+use air::SAMPLED_WORDS;
 use batch_words::unchecked::half_at;
 use batch_words::unchecked::word_at;
 use batch_words::unchecked::words_below;
@@ -12,30 +16,54 @@ ghost use Prim.Native.Nat.{_+_, _<_, _≤_};
 ghost use lib.Dec.{eqb};
 ghost use lib.ListN.{length, take, drop, getD, set};
 ghost use Rattle.batch_words.specs.Words.{number};
-ghost use Rattle.batch_commands.specs.Format.{TRACE-ROWS, HEIGHT, COMMANDS, width, rank, key};
-ghost use Rattle.batch_commands.specs.Fault.{limit, rowsIn, mixed, missing, outOfPlace, outOfOrder, wrongRowCount, heightOutOfRange, judged};
+ghost use Rattle.batch_commands.specs.Format.{TRACE-ROWS, HEIGHT, COMMANDS, MAX-DIFFERENCES, width, limit, rank, key, fixed, fixedOf};
+ghost use Rattle.batch_commands.specs.Fault.{rowsIn, mixed, missing, outOfPlace, outOfOrder, wrongRowCount, heightOutOfRange, judged};
 
-const MAX_ROWS: u32 = 32;
+const MAX_ROWS: u32 = crate::MAX_ROWS as u32;
+
+fn line(width: usize, words_at: usize, words: usize, limit: usize, rank: usize, key: usize) -> Fixed
+    ensures { λ r. ⌜ r ≡ fixed width «words_at» words limit rank key ⌝ }
+{
+    Fixed {
+        width,
+        words_at,
+        words,
+        limit,
+        rank,
+        key,
+    }
+}
+
+// The table of commands, a line for each: the operand's width in bytes, where its words begin, how many they are, how often the
+// command may stand in a batch whose 01 announced `rows`, its place in the order, and its key's width.
+pub fn line_of(code: usize, rows: usize) -> Fixed
+    requires { ⌜ code < COMMANDS ⌝ }
+    ensures { λ r. ⌜ r ≡ fixedOf rows code ⌝ }
+{
+    match code {
+        crate::END => line(0, 0, 0, 1, 10, 0),
+        crate::TRACE_ROWS => line(4, 0, 0, 1, 0, 0),
+        crate::ROW => line(312, 0, MainIndex::COUNT, rows, 6, 0),
+        crate::OP_STACK => line(8, 0, 1, crate::MAX_DIFFERENCES, 7, 8),
+        crate::RAM => line(8, 0, 1, crate::MAX_DIFFERENCES, 8, 8),
+        crate::JUMP_STACK => line(8, 0, 1, crate::MAX_DIFFERENCES, 9, 8),
+        crate::SAMPLED => line(1416, 0, SAMPLED_WORDS, 1, 5, 0),
+        crate::DIGEST => line(40, 0, DIGEST_WORDS, 1, 2, 0),
+        crate::INPUT => line(8, 0, 1, crate::MAX_WORDS, 3, 0),
+        crate::OUTPUT => line(8, 0, 1, crate::MAX_WORDS, 4, 0),
+        crate::HEIGHT => line(1, 0, 0, 1, 1, 0),
+        crate::MONTGOMERY_ROW => line(312, 0, MainIndex::COUNT, rows, 6, 0),
+        _ => line(0, 0, 0, 0, 0, 0),
+    }
+}
 
 // The width of a command's operand, in bytes.
 pub fn width(code: usize) -> usize
     requires { ⌜ code < COMMANDS ⌝ }
     ensures { λ r. ⌜ r ≡ width code ⌝ }
 {
-    match code {
-        crate::END => 0,
-        crate::TRACE_ROWS => 4,
-        crate::ROW => 312,
-        crate::OP_STACK => 8,
-        crate::RAM => 8,
-        crate::JUMP_STACK => 8,
-        crate::SAMPLED => 1416,
-        crate::DIGEST => 40,
-        crate::INPUT => 8,
-        crate::OUTPUT => 8,
-        crate::HEIGHT => 1,
-        _ => 312,
-    }
+    let line = line_of(code, 0);
+    line.width
 }
 
 // A command's place in the order of a batch.
@@ -43,20 +71,8 @@ pub fn rank(code: usize) -> usize
     requires { ⌜ code < COMMANDS ⌝ }
     ensures { λ r. ⌜ r ≡ rank code ⌝ }
 {
-    match code {
-        crate::END => 10,
-        crate::TRACE_ROWS => 0,
-        crate::ROW => 6,
-        crate::OP_STACK => 7,
-        crate::RAM => 8,
-        crate::JUMP_STACK => 9,
-        crate::SAMPLED => 5,
-        crate::DIGEST => 2,
-        crate::INPUT => 3,
-        crate::OUTPUT => 4,
-        crate::HEIGHT => 1,
-        _ => 6,
-    }
+    let line = line_of(code, 0);
+    line.rank
 }
 
 // What must not descend from one command of a kind to the next: a difference, or nothing.
@@ -77,20 +93,8 @@ fn limit(rows: usize, code: usize) -> usize
     requires { ⌜ code < COMMANDS ⌝ }
     ensures { λ r. ⌜ r ≡ limit rows code ⌝ }
 {
-    match code {
-        crate::END => 1,
-        crate::TRACE_ROWS => 1,
-        crate::ROW => rows,
-        crate::OP_STACK => 128,
-        crate::RAM => 128,
-        crate::JUMP_STACK => 128,
-        crate::SAMPLED => 1,
-        crate::DIGEST => 1,
-        crate::INPUT => 64,
-        crate::OUTPUT => 64,
-        crate::HEIGHT => 1,
-        _ => rows,
-    }
+    let line = line_of(code, rows);
+    line.limit
 }
 
 // The rows that came, in whichever form.
@@ -121,13 +125,13 @@ fn count(came: [usize; crate::COUNT], code: usize) -> usize
         crate::INPUT => came[crate::INPUT],
         crate::OUTPUT => came[crate::OUTPUT],
         crate::HEIGHT => came[crate::HEIGHT],
-        _ => came[crate::MONTGOMERY_ROW],
+        crate::MONTGOMERY_ROW | _ => came[crate::MONTGOMERY_ROW],
     }
 }
 
 // With the command counted too.
 pub fn counted(mut came: [usize; crate::COUNT], code: usize) -> [usize; crate::COUNT]
-    requires { ⌜ (code < COMMANDS) × (getD came code 0 ≤ 128) ⌝ }
+    requires { ⌜ (code < COMMANDS) × (getD came code 0 ≤ MAX-DIFFERENCES) ⌝ }
     ensures { λ r. ⌜ r ≡ set came code (getD came code 0 + 1) ⌝ }
 {
     match code {
@@ -142,7 +146,7 @@ pub fn counted(mut came: [usize; crate::COUNT], code: usize) -> [usize; crate::C
         crate::INPUT => came[crate::INPUT] = came[crate::INPUT] + 1,
         crate::OUTPUT => came[crate::OUTPUT] = came[crate::OUTPUT] + 1,
         crate::HEIGHT => came[crate::HEIGHT] = came[crate::HEIGHT] + 1,
-        _ => came[crate::MONTGOMERY_ROW] = came[crate::MONTGOMERY_ROW] + 1,
+        crate::MONTGOMERY_ROW | _ => came[crate::MONTGOMERY_ROW] = came[crate::MONTGOMERY_ROW] + 1,
     }
     came
 }

@@ -1,11 +1,11 @@
 // The lengths of what is written.
+use air::DIGEST_WORDS;
 use air::MainIndex;
+use air::SAMPLED_WORDS;
+use batch_commands::MAX_DIFFERENCES;
+use batch_commands::MAX_WORDS;
 ghost use mathlib.Core.Path.{_≡_};
 ghost use Rattle.batch_lengths.specs.Lengths.{heightLength, rightNumbers};
-
-const MAX_DIFFERENCES: usize = 128;
-
-const MAX_WORDS: usize = 64;
 
 // What 01, 07, 06 and 00 take, and 0B, and a row, and a difference or a word.
 const ONCE_LEN: usize = 1464;
@@ -50,10 +50,10 @@ pub fn right_lengths(
     if MAX_DIFFERENCES < jump_stack {
         return false;
     }
-    if sampled != 177 {
+    if sampled != SAMPLED_WORDS {
         return false;
     }
-    if digest != 5 {
+    if digest != DIGEST_WORDS {
         return false;
     }
     if MAX_WORDS < input {

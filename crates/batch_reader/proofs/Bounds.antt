@@ -11,8 +11,8 @@ use borrow.Author.Tests.{eqb-true, eq-eqb, ne-eqb, leb-true, not-false}
 use Rattle.field_base.proofs.Below.{and-true}
 use Rattle.refusal.specs.declared.Answer.the-variants.{Done}
 use Rattle.batch_words.specs.Words.{number}
-use Rattle.batch_commands.specs.Format.{TRACE-ROWS, HEIGHT, COMMANDS, width, Command}
-use Rattle.batch_commands.specs.Fault.{limit, wrongRowCount, wrongHeight, fault}
+use Rattle.batch_commands.specs.Format.{TRACE-ROWS, HEIGHT, Line, inAll, lines, COMMANDS, said, width, limit, Command}
+use Rattle.batch_commands.specs.Fault.{wrongRowCount, wrongHeight, heightOutOfRange, fault}
 use Rattle.batch_reader.specs.Commands.{count, announced, heightOf, seenIn}
 use Rattle.batch_reader.specs.Reading.{read, reading}
 use Rattle.batch_reader.proofs.Commands.{count-one, count-at, height-one, no-height}
@@ -103,20 +103,23 @@ module _ (code : ℕ) (bytes : List ℕ) where
 pub bounded : (batch : List ℕ) (ks : List Command) → reading batch ≡ read ks → Bounded ks
 bounded batch ks e = let a = at-start batch in kept Bounded (λ before code bytes. bounded-next code bytes before) (a .fuel) [] batch ks none-bounded (sym (a .rest) ∙ e)
 
--- each number of a list is at most `most`
-abbrev AllAtMost : ℕ → List ℕ → Type 0
-AllAtMost most [] = Unit
-AllAtMost most (n ∷ ns) = (n ≤ most) × AllAtMost most ns
+-- each line's number is at most `most`
+abbrev AllAtMost : ℕ → (Line → ℕ) → List Line → Type 0
+AllAtMost most column [] = Unit
+AllAtMost most column (line ∷ others) = (column line ≤ most) × AllAtMost most column others
 
-one-at-most : (most : ℕ) (ns : List ℕ) (i : ℕ) → AllAtMost most ns → getD ns i 0 ≤ most
-one-at-most most [] i h = omega arith
-one-at-most most (n ∷ ns) zero h = h .0
-one-at-most most (n ∷ ns) (suc i) h = one-at-most most ns i (h .1)
+either-at-most : (most a b : ℕ) (first : Bool) → a ≤ most → b ≤ most → cond first a b ≤ most
+either-at-most most a b true l m = l
+either-at-most most a b false l m = m
+
+said-at-most : (most : ℕ) (column : Line → ℕ) (code : ℕ) (others : List Line) → AllAtMost most column others → said column code others ≤ most
+said-at-most most column code [] h = omega arith
+said-at-most most column code (line ∷ others) h = either-at-most most (column line) (said column code others) (eqb code (line .byte)) (h .0) (said-at-most most column code others (h .1))
 
 pub count-small : (ks : List Command) → Bounded ks → (code : ℕ) → code < COMMANDS → count code ks ≤ 128
 count-small ks b code l =
     let few = b .few-rows in
-    let n = one-at-most 128 (1 ∷ 1 ∷ announced ks ∷ 128 ∷ 128 ∷ 128 ∷ 1 ∷ 1 ∷ 64 ∷ 64 ∷ announced ks ∷ 1 ∷ []) code
+    let n : limit (announced ks) code ≤ 128 = said-at-most 128 (λ line. inAll (announced ks) (line .often)) code lines
     (omega arith, (omega arith, (omega arith, (omega arith, (omega arith, (omega arith, (omega arith, (omega arith, (omega arith, (omega arith, (omega arith, (omega arith, tt)))))))))))) in
     omega (arith, n, b .within code l)
 
@@ -124,13 +127,16 @@ count-small ks b code l =
 abbrev pub HeightSet : List Command → Type 0
 HeightSet ks = ((count HEIGHT ks ≡ 0) × (heightOf ks ≡ 0)) ⊎ ((count HEIGHT ks ≡ 1) × (wrongHeight (announced ks) (heightOf ks) ≡ false))
 
+height-right : (rows code : ℕ) (operand : List ℕ) → eqb code HEIGHT ≡ true → heightOutOfRange rows code operand ≡ false → wrongHeight rows (number operand) ≡ false
+height-right rows code operand e h = rw e at h
+
 module _ (code : ℕ) (bytes : List ℕ) where
   set-by : (k : Command) (ks : List Command) (same : Bool) → eqb code HEIGHT ≡ same → Passes (seenIn (k ∷ ks)) code bytes → HeightSet (k ∷ ks) → HeightSet (k ∷ ks ++ (next code bytes ∷ []))
   set-by k ks true e p s =
       let is = eqb-true code HEIGHT e in
       let n : count HEIGHT (k ∷ ks ++ (next code bytes ∷ [])) ≡ 1 = count-one HEIGHT (k ∷ ks) (next code bytes) ∙ rw (e, once code bytes (k ∷ ks) p is) in
       let h : heightOf (k ∷ ks ++ (next code bytes ∷ [])) ≡ number (take (width code) bytes) = height-next code bytes (k ∷ ks) p ∙ rw e in
-      inr (n, rw h (rw e at (p .height)))
+      inr (n, rw h (height-right (announced (k ∷ ks)) code (take (width code) bytes) e (p .height)))
   set-by k ks false e p (inl s) =
       let n : count HEIGHT (k ∷ ks ++ (next code bytes ∷ [])) ≡ 0 = count-one HEIGHT (k ∷ ks) (next code bytes) ∙ rw (e, s .0) in
       inl (n, no-height (k ∷ ks ++ (next code bytes ∷ [])) n)

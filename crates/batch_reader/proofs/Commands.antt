@@ -9,10 +9,9 @@ use lib.Dec.{eqb}
 use lib.ListN.{length, getD, set, length-append}
 use borrow.Author.Tests.{eqb-true, eq-eqb, ne-eqb}
 use Rattle.batch_words.specs.Words.{number}
-use Rattle.batch_commands.specs.Format.{HEIGHT, COMMANDS, width, wordsIn, wordsFor, rank, key, Command}
+use Rattle.batch_commands.specs.Format.{HEIGHT, COMMANDS, from, width, wordsIn, wordsFor, rank, key, Command}
 use Rattle.batch_reader.specs.Commands.{count, counts, contents, heightOf, highestRank, lastKey}
-use Rattle.batch_commands.proofs.Tables.{from, map-at}
-use Rattle.batch_words.proofs.Bytes.{length-words}
+use Rattle.batch_commands.proofs.Tables.{map-at, length-words-in}
 
 pub count-append : (code : ℕ) (ks js : List Command) → count code (ks ++ js) ≡ count code ks + count code js
 unfolding count
@@ -35,7 +34,7 @@ contents-append wanted (k ∷ ks) js = rw (contents-append wanted ks js, append-
 
 -- the words of each command of the wanted kind
 length-for : (wanted code : ℕ) (operand : List ℕ) (same : Bool) → eqb code wanted ≡ same → length (cond same (wordsIn code operand) []) ≡ cond same 1 0 * (width wanted / 8)
-length-for wanted code operand true e = rw (length-words, eqb-true code wanted e) (omega arith)
+length-for wanted code operand true e = rw (length-words-in code operand, eqb-true code wanted e) (omega arith)
 length-for wanted code operand false e = omega arith
 
 pub length-contents : (wanted : ℕ) (ks : List Command) → length (contents wanted ks) ≡ count wanted ks * (width wanted / 8)

@@ -1,10 +1,10 @@
 -- What the tests of a command say, in their order, and what a step makes of them.
-use mathlib.Core.Path.{_≡_, refl}
-use mathlib.Core.Bool.{Bool, true, false, cond}
+use mathlib.Core.Path.{_≡_, refl, sym, _∙_}
+use mathlib.Core.Bool.{Bool, true, false, cond, not}
 use mathlib.Core.List.{List, [], _∷_}
 use Prim.Native.Nat.{ℕ, _+_, _-_, _≤_, _<_}
 use native.Mathlib.Omega.{arith}
-use lib.Dec.{eqb, leb, ltb}
+use lib.Dec.{eqb, ltb}
 use lib.ListN.{length, drop}
 use borrow.Author.Tests.{ltb-false, leb-false, eqb-false}
 use Rattle.refusal.specs.declared.Answer.{Answer}
@@ -12,8 +12,9 @@ use Rattle.refusal.specs.declared.Answer.the-variants as answer
 use Rattle.refusal.specs.declared.Answer.the-variants.{Done}
 use Rattle.refusal.specs.declared.Refusal.the-variants.{UnknownCommand, BatchCutOff}
 use Rattle.batch_commands.specs.declared.Head.the-variants.{Unknown, CutOff, Whole}
-use Rattle.batch_commands.specs.Format.{END, COMMANDS, width, Command}
+use Rattle.batch_commands.specs.Format.{END, COMMANDS, known, width, Command}
 use Rattle.batch_commands.specs.Fault.{judged, fault, headOf}
+use Rattle.batch_commands.proofs.Tables.{unknown}
 use Rattle.batch_commands.proofs.Heads.{headBy}
 use Rattle.batch_reader.specs.declared.OpenAnswer.{OpenAnswer}
 use Rattle.batch_reader.specs.declared.OpenAnswer.the-variants.{Opened, Refused}
@@ -44,20 +45,20 @@ module _ (seen : Seen) where
   pub unknown-step : (bytes : List ℕ) → headOf bytes ≡ Unknown → stepOf seen bytes ≡ Stop (Refused UnknownCommand)
   unfolding fault
   unknown-step [] e = cc
-  unknown-step (code ∷ bytes) e = rw (unknown-by (leb COMMANDS code) (ltb (length bytes) (width code)) code e)
+  unknown-step (code ∷ bytes) e = rw (unknown-by (not (known code)) (ltb (length bytes) (width code)) code e)
 
   pub cut-off-step : (bytes : List ℕ) → headOf bytes ≡ CutOff → stepOf seen bytes ≡ Stop (Refused BatchCutOff)
   unfolding fault
   cut-off-step [] e = refl
-  cut-off-step (code ∷ bytes) e = let h = cut-off-by (leb COMMANDS code) (ltb (length bytes) (width code)) code e in rw (h .0, h .1)
+  cut-off-step (code ∷ bytes) e = let h = cut-off-by (not (known code)) (ltb (length bytes) (width code)) code e in rw (h .0, h .1)
 
   pub whole-step : (bytes : List ℕ) (k : ℕ) → headOf bytes ≡ Whole k
       → (k < COMMANDS) × (1 + width k ≤ length bytes) × (stepOf seen bytes ≡ stepBy (judged seen k (drop 1 bytes)) k (seen .came) (seen .«log2_height»))
-  unfolding fault
+  unfolding fault judged
   whole-step [] k e = let z : _≡_ {A = ℕ} 0 1 = cc in (omega arith, omega arith, cc)
   whole-step (code ∷ bytes) k e =
-      let h = whole-by (leb COMMANDS code) (ltb (length bytes) (width code)) code k e in
-      let known = leb-false COMMANDS code (h .0) in
+      let h = whole-by (not (known code)) (ltb (length bytes) (width code)) code k e in
+      let known = leb-false COMMANDS code (sym (unknown code) ∙ h .0) in
       let whole = ltb-false (length bytes) (width code) (h .1) in
       rw (h .2) (omega arith, omega arith, rw (h .0, h .1))
 

@@ -2,7 +2,7 @@
 use mathlib.Core.Path.{_≡_, refl, sym, ap, _∙_}
 use mathlib.Core.Bool.{Bool, true, false, cond, not}
 use mathlib.Core.List.{List, [], _∷_, _++_, append-assoc, append-nil}
-use Prim.Native.Nat.{ℕ, zero, suc, _+_, _-_, _/_, _≤_, _<_}
+use Prim.Native.Nat.{ℕ, zero, suc, _+_, _-_, _≤_, _<_}
 use native.Mathlib.Nat.{add-zero, not-suc-le-zero}
 use native.Mathlib.Omega.{arith}
 use lib.Dec.{eqb}
@@ -13,9 +13,8 @@ use Rattle.refusal.proofs.Answers.{or-false}
 use Rattle.batch_commands.specs.declared.Seen.{Seen}
 use Rattle.batch_commands.specs.Format.{END, width, wordsIn, key, Command, laidOut}
 use Rattle.batch_commands.specs.Fault.{missing, fault}
-use Rattle.batch_commands.proofs.Tables.{key-within}
+use Rattle.batch_commands.proofs.Tables.{key-within, words-within-operand}
 use Rattle.batch_commands.proofs.Laid.{laid-append}
-use Rattle.batch_words.proofs.Bytes.{words-within}
 use Rattle.batch_reader.specs.Commands.{seenIn}
 use Rattle.batch_reader.specs.Reading.{Reading, read, readFrom, reading}
 use Rattle.batch_reader.proofs.Passing.{Passes, passing, no-fault}
@@ -26,7 +25,7 @@ module _ (seen : Seen) (code : ℕ) (bytes others : List ℕ) (more : code ≡ E
   pub passes-alike : Passes seen code bytes → Passes seen code others
   passes-alike p =
       let k : key code bytes ≡ key code others = sym (key-within code bytes (p .known)) ∙ ap (key code) same ∙ key-within code others (p .known) in
-      let w : wordsIn code bytes ≡ wordsIn code others = sym (words-within (width code / 8) (width code) bytes (omega arith)) ∙ ap (wordsIn code) same ∙ words-within (width code / 8) (width code) others (omega arith) in
+      let w : wordsIn code bytes ≡ wordsIn code others = sym (words-within-operand code bytes (p .known)) ∙ ap (wordsIn code) same ∙ words-within-operand code others (p .known) in
       record {
         known = p .known;
         whole = whole;
@@ -61,7 +60,7 @@ step n before k rest next =
     let t : take (width (k .code)) (k .operand ++ rest) ≡ k .operand = take-at (k .operand) rest (width (k .code)) (next .whole) in
     let all : take (width (k .code)) (k .operand) ≡ k .operand = take-all (width (k .code)) (k .operand) (omega (arith, next .whole)) in
     let p = passes-alike (seenIn before) (k .code) (k .operand) (k .operand ++ rest) (next .more) (omega (arith, next .whole, length-append (k .operand) rest)) (all ∙ sym t) (next .passes) in
-    rw (no-fault (seenIn before) (k .code) (k .operand ++ rest) p, ne-eqb (k .code) END (next .more), t, drop-at (k .operand) rest (width (k .code)) (next .whole))
+    rw (no-fault (seenIn before) (k .code) (k .operand ++ rest) p, t, drop-at (k .operand) rest (width (k .code)) (next .whole), ne-eqb (k .code) END (next .more))
 
 -- and many
 pub steps : (n : ℕ) (before ks : List Command) (rest : List ℕ) → Faultless before ks → readFrom (n + length ks) before (laidOut ks ++ rest) ≡ readFrom n (before ++ ks) rest

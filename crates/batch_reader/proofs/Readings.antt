@@ -51,7 +51,7 @@ step zero batch at before e here =
     absurd none
 step (suc n) batch at before e here =
     let e₁ : suc n - 1 ≡ n = omega arith in
-    rw (drop-cons batch at 0 here, e₁, add-one, drop-drop)
+    rw (drop-cons batch at 0 here, e₁, add-one, drop-drop (width (getD batch at 0)) (suc at) batch)
 
 -- what is read was not refused
 pub of-unless : (answer : Answer) (next : Reading) (ks : List Command) → unless answer next ≡ read ks → (answer ≡ Done) × (next ≡ read ks)

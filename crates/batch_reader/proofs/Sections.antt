@@ -10,7 +10,7 @@ use lib.Dec.{eqb, ltb, lit<}
 use lib.ListN.{length, take, drop, getD, length-append, length-drop}
 use lib.Seq.{getD-drop, drop-drop, drop-append-seam, take-at, take-append-seam, drop-append-add}
 use borrow.Author.Tests.{lt-ltb, le-ltb, eq-eqb, ne-eqb, eqb-true, eqb-false}
-use Rattle.batch_words.proofs.Bytes.{length-words, words-within}
+use Rattle.batch_words.specs.Words.{words}
 use Rattle.field_montgomery.specs.declared.Form.{Form}
 use Rattle.field_montgomery.specs.declared.Form.the-variants.{Plain, Montgomery}
 use Rattle.field_montgomery.specs.Form.{plain}
@@ -18,7 +18,7 @@ use Rattle.field_montgomery.proofs.Many.{length-plain, plain-append}
 use Rattle.batch_commands.specs.Format.{END, TRACE-ROWS, DIGEST, MONTGOMERY-ROW, HEIGHT, COMMANDS, width, wordsIn, rank, key, Command, laidOut}
 use Rattle.batch_commands.specs.Form.{OfForm}
 use Rattle.batch_commands.specs.Fault.{wrongHeight}
-use Rattle.batch_commands.proofs.Tables.{rank-injective, of-test}
+use Rattle.batch_commands.proofs.Tables.{rank-injective, of-test, words-within-operand, all-words, length-words-in}
 use Rattle.batch_commands.proofs.Laid.{laid-append}
 use Rattle.batch_reader.specs.Commands.{count, counts, contents, formOf, announced, heightOf}
 use Rattle.batch_reader.specs.Reading.{read, reading, commandsOf}
@@ -161,7 +161,7 @@ module _ (batch : List ℕ) (wanted : ℕ) (opened : reading batch ≡ read (com
       brought-there : wordsIn wanted (drop (at + 1) batch) ≡ contents wanted (here .k ∷ [])
       brought-there =
           let t : take (width wanted) (drop (at + 1) batch) ≡ here .k .operand = rw operand-there (take-at (here .k .operand) _ (width wanted) k-whole) in
-          sym (words-within (width wanted / 8) (width wanted) (drop (at + 1) batch) (omega arith)) ∙ ap (wordsIn wanted) t ∙ sym (one-brought wanted (here .k) (here .of-kind))
+          sym (words-within-operand wanted (drop (at + 1) batch) known) ∙ ap (wordsIn wanted) t ∙ sym (one-brought wanted (here .k) (here .of-kind))
 
       brought-on : contents wanted (s .before ++ (here .k ∷ [])) ≡ contents wanted (s .before) ++ wordsIn wanted (drop (at + 1) batch)
       brought-on = contents-append wanted (s .before) (here .k ∷ []) ∙ ap (_++_ (contents wanted (s .before))) (sym brought-there)
@@ -170,17 +170,17 @@ module _ (batch : List ℕ) (wanted : ℕ) (opened : reading batch ≡ read (com
       room h =
           let e = ap (contents wanted) parts-on ∙ contents-append wanted (s .before ++ (here .k ∷ [])) (here .rest) ∙ ap (λ l. l ++ contents wanted (here .rest)) brought-on in
           let n = ap length e ∙ length-append (contents wanted (s .before) ++ wordsIn wanted (drop (at + 1) batch)) (contents wanted (here .rest)) in
-          omega (arith, n, length-append (contents wanted (s .before)) (wordsIn wanted (drop (at + 1) batch)), length-words (width wanted / 8) (drop (at + 1) batch), s .same-length, s .reached)
+          omega (arith, n, length-append (contents wanted (s .before)) (wordsIn wanted (drop (at + 1) batch)), length-words-in wanted (drop (at + 1) batch), s .same-length, s .reached)
 
       laid-one : length (laidOut (here .k ∷ [])) ≡ 1 + width wanted
       unfolding laidOut
       laid-one = let n = length-append (here .k .operand) [] in let w = k-whole in omega arith
 
-      pub goes-on : (slice′ : List ℕ) → length slice′ ≡ length slice → slice′ ≡ take to slice ++ plain form (wordsIn wanted (drop (at + 1) batch)) ++ drop (to + width wanted / 8) slice
+      pub goes-on : (slice′ : List ℕ) → length slice′ ≡ length slice → slice′ ≡ take to slice ++ plain form (words (width wanted / 8) (drop (at + 1) batch)) ++ drop (to + width wanted / 8) slice
           → Section batch wanted form slice₀ slice′ (to + width wanted / 8) (at + 1 + width wanted)
       goes-on slice′ l e =
           let ws = wordsIn wanted (drop (at + 1) batch) in
-          let n = length-words (width wanted / 8) (drop (at + 1) batch) in
+          let n = length-words-in wanted (drop (at + 1) batch) in
           record {
             before = s .before ++ (here .k ∷ []);
             after = here .rest;
@@ -189,7 +189,7 @@ module _ (batch : List ℕ) (wanted : ℕ) (opened : reading batch ≡ read (com
             low = every-append _ (s .before) (here .k ∷ []) (s .low) (let z = ap rank (here .of-kind) in omega arith, tt);
             high = rw (here .is) at (s .high) .1;
             same-length = l ∙ s .same-length;
-            filled = e ∙ ap (λ m. take to slice ++ plain form ws ++ drop (to + m) slice) (sym (length-plain form ws ∙ n))
+            filled = e ∙ ap (λ l. take to slice ++ plain form l ++ drop (to + width wanted / 8) slice) (sym (all-words wanted (drop (at + 1) batch))) ∙ ap (λ m. take to slice ++ plain form ws ++ drop (to + m) slice) (sym (length-plain form ws ∙ n))
                 ∙ written-on (plain form (contents wanted (s .before))) (plain form ws) slice₀ slice to (s .filled) (s .reached ∙ sym (length-plain form (contents wanted (s .before))))
                 ∙ ap (λ l. written l slice₀) (sym (plain-append form (contents wanted (s .before)) ws) ∙ ap (plain form) (sym brought-on));
             reached = ap (λ m. m + width wanted / 8) (s .reached) ∙ sym (ap length brought-on ∙ length-append (contents wanted (s .before)) ws ∙ ap (_+_ (length (contents wanted (s .before)))) n);

@@ -6,7 +6,7 @@ use lib.Dec.{eqb}
 use Rattle.batch_words.specs.Words.{number, words}
 use Rattle.batch_commands.specs.declared.Seen.{Seen}
 use Rattle.field_montgomery.specs.declared.Form.{Form}
-use Rattle.batch_commands.specs.Format.{ROW, HEIGHT, rank, key, wordsFor, Command}
+use Rattle.batch_commands.specs.Format.{ROW, HEIGHT, COMMANDS, from, rank, key, wordsFor, Command}
 use Rattle.field_montgomery.specs.Form.{plain}
 use Rattle.batch_commands.specs.Form.{rowCommand}
 use Rattle.batch_commands.specs.Fault.{formIn}
@@ -18,7 +18,7 @@ count code (command ∷ commands) = cond (eqb (command .code) code) 1 0 + count 
 
 -- how often each, by its byte
 abbrev pub counts : List Command → List ℕ
-counts commands = map (λ code. count code commands) (0 ∷ 1 ∷ 2 ∷ 3 ∷ 4 ∷ 5 ∷ 6 ∷ 7 ∷ 8 ∷ 9 ∷ 10 ∷ 11 ∷ [])
+counts commands = map (λ code. count code commands) (from 0 COMMANDS)
 
 -- the words that the commands of one kind bring, in their order
 unfoldable pub contents : ℕ → List Command → List ℕ

@@ -14,7 +14,7 @@ use refusal::Refusal;
 ghost use mathlib.Core.Path.{_≡_};
 ghost use Prim.Native.Nat.{_+_, _<_, _≤_};
 ghost use lib.ListN.{length, drop, getD};
-ghost use Rattle.batch_commands.specs.Format.{COMMANDS, width};
+ghost use Rattle.batch_commands.specs.Format.{COMMANDS, width, MAX-DIFFERENCES};
 ghost use Rattle.batch_commands.specs.Fault.{headOf};
 ghost use Rattle.batch_reader.specs.Reading.{reading};
 ghost use Rattle.batch_reader.specs.Answers.{countsIn, answerOf};
@@ -97,7 +97,7 @@ fn step_at(head: Head, batch: &[u8], at: usize, seen: Seen) -> Step
 
 // With the command at a place too.
 fn seen_past(batch: &[u8], at: usize, code: usize, seen: Seen) -> Seen
-    requires { ⌜ (code < COMMANDS) × (at + 1 + width code ≤ length (now batch)) × (getD (seen .came) code 0 ≤ 128) ⌝ }
+    requires { ⌜ (code < COMMANDS) × (at + 1 + width code ≤ length (now batch)) × (getD (seen .came) code 0 ≤ MAX-DIFFERENCES) ⌝ }
     ensures { λ r. ⌜ r ≡ seenPast seen code (drop (at + 1) (now (batch .entry))) ⌝ }
 {
     let before = seen.came;

@@ -1,7 +1,9 @@
 // The caller knows that the list fits.
+use batch_commands::MAX_DIFFERENCES;
 ghost use mathlib.Core.Path.{_≡_};
 ghost use Prim.Native.Nat.{_≤_, _<_};
 ghost use lib.ListN.{length, take, drop};
+ghost use Rattle.batch_commands.specs.Format.{MAX-DIFFERENCES};
 ghost use Rattle.batch_sorted.specs.Sorted.{inserted, sorted};
 
 // The first place of the room is free, and ascending words stand from the second on.
@@ -22,12 +24,12 @@ fn insert(room: &mut [u64], word: u64)
 }
 
 // The list in ascending order, at the front.
-pub fn sorted(list: &[u64]) -> [u64; 128]
-    requires { ⌜ length (now list) ≤ 128 ⌝ }
+pub fn sorted(list: &[u64]) -> [u64; MAX_DIFFERENCES]
+    requires { ⌜ length (now list) ≤ MAX-DIFFERENCES ⌝ }
     ensures { λ r. ⌜ take (length (now (list .entry))) r ≡ sorted (now (list .entry)) ⌝ }
 {
     let n = list.len();
-    let mut room = [0u64; 128];
+    let mut room = [0u64; MAX_DIFFERENCES];
     let mut i = n;
     while 0 < i {
         i -= 1;

@@ -39,7 +39,7 @@ word-at (suc n) l (suc i) h =
 pub word-of : (l : List ℕ) (at n i : ℕ) → i < n → getD (words n (drop at l)) i 0 ≡ number (take 8 (drop (at + 8 * i) l))
 word-of l at n i h = word-at n (drop at l) i h ∙ rw (drop-drop (8 * i) at l)
 
-drop-take : (n m : ℕ) (l : List ℕ) → drop n (take (n + m) l) ≡ take m (drop n l)
+pub drop-take : (n m : ℕ) (l : List ℕ) → drop n (take (n + m) l) ≡ take m (drop n l)
 drop-take zero m l = rw zero-add
 drop-take (suc n) m [] = rw (take-nil, take-nil)
 drop-take (suc n) m (x ∷ l) = rw (suc-add, drop-take n m l)

@@ -1,7 +1,7 @@
 // At a place of a batch; the caller proves that the batch reaches that far.
 use field_montgomery::Form;
-use field_montgomery::unchecked::plain_word;
-use field_montgomery::unchecked::word_in;
+use field_montgomery::reducing::plain_word;
+use field_montgomery::reducing::word_in;
 ghost use mathlib.Core.Path.{_≡_};
 ghost use mathlib.Core.List.{[], _∷_, _++_};
 ghost use Prim.Native.Nat.{_+_, _*_, _≤_};

@@ -1,13 +1,12 @@
 -- Write: the answer, and what the lent batch holds then. "The writer is told which form to write."
-use mathlib.Core.Bool.{Bool, cond, not, _&&_}
-use mathlib.Core.List.{List}
+use mathlib.Core.Bool.{Bool, not, _&&_}
+use mathlib.Core.List.{List, [], _∷_}
 use Prim.Native.Nat.{ℕ}
 use lib.Dec.{eqb, leb}
 use lib.ListN.{length}
 use Rattle.field_base.specs.Words.{allBelow}
-use Rattle.refusal.specs.Number.{onDone}
+use Rattle.refusal.specs.Tests.{onDone, Tests, _when_, _unless_, first}
 use Rattle.refusal.specs.declared.Answer.{Answer}
-use Rattle.refusal.specs.declared.Answer.the-variants.{Done, Refused}
 use Rattle.refusal.specs.declared.Refusal.the-variants.{SliceLength, RowCount, HeightOutOfRange, WordNotBelowP}
 use Rattle.air.specs.ChallengeId.{SAMPLED-WORDS, DIGEST-WORDS}
 use Rattle.table_rows.specs.Rows.{wholeRows, rows}
@@ -47,14 +46,17 @@ abbrev pub refusedHeight : ℕ → ℕ → Bool
 refusedHeight rows k = not (eqb k 0) && wrongHeight rows k
 
 -- "1 for a slice of wrong length .., then 3, then 2", where the lent batch has `batch` bytes; 12 "right after 3"
+abbrev pub writeTests : Form → Contents → ℕ → Tests
+writeTests form contents batch =
+    (SliceLength unless rightLengths form contents batch)
+    ∷ (RowCount unless leb 1 (rows (contents .trace)) && leb (rows (contents .trace)) MAX-ROWS)
+    ∷ (HeightOutOfRange when refusedHeight (rows (contents .trace)) (contents .log2-height))
+    ∷ (WordNotBelowP unless allWordsBelow contents)
+    ∷ []
+
 unfoldable pub writeAnswer : Form → Contents → ℕ → Answer
 unfolding rightLengths
-writeAnswer form contents batch =
-    cond (not (rightLengths form contents batch)) (Refused SliceLength)
-    (cond (not (leb 1 (rows (contents .trace)) && leb (rows (contents .trace)) MAX-ROWS)) (Refused RowCount)
-    (cond (refusedHeight (rows (contents .trace)) (contents .log2-height)) (Refused HeightOutOfRange)
-    (cond (not (allWordsBelow contents)) (Refused WordNotBelowP)
-    Done)))
+writeAnswer form contents batch = first (writeTests form contents batch)
 
 -- what the lent batch holds then
 unfoldable pub writeBatch : Form → Contents → List ℕ → List ℕ

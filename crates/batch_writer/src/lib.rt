@@ -1,5 +1,6 @@
 // Write: it decides on its answer first, and writes only then.
 use air::MainIndex;
+use batch_commands::MAX_ROWS;
 use batch_commands::wrong_height;
 use batch_lengths::right_lengths;
 use field_base::all_below;
@@ -13,8 +14,6 @@ ghost use Rattle.batch_writer.specs.Contents.{contentsOf};
 ghost use Rattle.batch_writer.specs.Write.{allWordsBelow, refusedHeight, writeAnswer, writeBatch};
 
 mod unchecked;
-
-const MAX_ROWS: usize = 32;
 
 // Of the lists; k is no word.
 fn all_words_below(

@@ -14,7 +14,7 @@ ghost use Rattle.field_montgomery.specs.Form.{inForm};
 ghost use Rattle.table_rows.specs.Rows.{rows};
 ghost use Rattle.batch_words.specs.Words.{littleEndian, bytesOf};
 ghost use Rattle.batch_words.specs.Pasted.{pasted};
-ghost use Rattle.batch_commands.specs.Format.{TRACE-ROWS, COMMANDS, MAX-ROWS, MAX-LOG-2-HEIGHT, width, laidOut};
+ghost use Rattle.batch_commands.specs.Format.{TRACE-ROWS, COMMANDS, MAX-ROWS, MAX-LOG-2-HEIGHT, width, laidOut, MAX-DIFFERENCES};
 ghost use Rattle.batch_sorted.specs.Sorted.{sorted};
 ghost use Rattle.batch_lengths.specs.Lengths.{heightLength};
 ghost use Rattle.batch_writer.specs.Contents.{contentsOf};
@@ -82,7 +82,7 @@ fn put_commands(
 
 // The differences of a list, ascending.
 fn put_differences(batch: &mut [u8], at: usize, code: usize, list: &[u64]) -> usize
-    requires { ⌜ (code < COMMANDS) × (width code ≡ 8) × (length (now list) ≤ 128) ⌝ }
+    requires { ⌜ (code < COMMANDS) × (width code ≡ 8) × (length (now list) ≤ MAX-DIFFERENCES) ⌝ }
     requires { ⌜ at + length (now list) * 9 ≤ length (now batch) ⌝ }
     ensures { λ r. ⌜ r ≡ at + length (now (list .entry)) * 9 ⌝ }
     ensures { λ r. ⌜ now (batch .exit) ≡ pasted (now (batch .entry)) at (laidOut (commandsWith (length (now (list .entry))) code (sorted (now (list .entry))))) ⌝ }

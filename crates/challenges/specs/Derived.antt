@@ -1,16 +1,14 @@
 -- The record of 63 challenges: the sampled ones, and four that are derived from them and from the claim.
-use mathlib.Core.Bool.{Bool, cond, not, _&&_}
-use mathlib.Core.List.{List, _++_, map}
+use mathlib.Core.Bool.{Bool, not, _&&_}
+use mathlib.Core.List.{List, [], _∷_, _++_, map}
 use Prim.Native.Nat.{ℕ, _*_}
 use lib.Dec.{eqb}
 use lib.ListN.{length}
 use Rattle.field_base.specs.Words.{allBelow}
 use Rattle.field.specs.Element.{elementAt, wordsOf, lift}
 use Rattle.field.specs.declared.XFieldElement.{XFieldElement}
-use Rattle.refusal.specs.Number.{onDone}
-use Rattle.refusal.specs.Long.{isLong}
+use Rattle.refusal.specs.Tests.{onDone, isLong, Tests, _unless_, first}
 use Rattle.refusal.specs.declared.Answer.{Answer}
-use Rattle.refusal.specs.declared.Answer.the-variants.{Done, Refused}
 use Rattle.refusal.specs.declared.Refusal.the-variants.{SliceLength, WordNotBelowP}
 use Rattle.air.specs.ChallengeId.{COMPRESS-PROGRAM-DIGEST-INDETERMINATE, STANDARD-INPUT-INDETERMINATE, STANDARD-OUTPUT-INDETERMINATE, LOOKUP-TABLE-PUBLIC-INDETERMINATE, RECORD-WORDS, SAMPLED-WORDS, DIGEST-WORDS}
 use Rattle.cross_table_argument.specs.CrossTable.{evaluationArgument}
@@ -42,11 +40,12 @@ rightLengths sampled digest input output lent =
 abbrev pub allWordsBelow : List ℕ → List ℕ → List ℕ → List ℕ → Bool
 allWordsBelow sampled digest input output = allBelow sampled && (allBelow digest && (allBelow input && allBelow output))
 
+abbrev pub challengesTests : List ℕ → List ℕ → List ℕ → List ℕ → List ℕ → Tests
+challengesTests sampled digest input output lent =
+    (SliceLength unless rightLengths sampled digest input output lent) ∷ (WordNotBelowP unless allWordsBelow sampled digest input output) ∷ []
+
 unfoldable pub challengesAnswer : List ℕ → List ℕ → List ℕ → List ℕ → List ℕ → Answer
-challengesAnswer sampled digest input output lent =
-    cond (not (rightLengths sampled digest input output lent)) (Refused SliceLength)
-    (cond (not (allWordsBelow sampled digest input output)) (Refused WordNotBelowP)
-    Done)
+challengesAnswer sampled digest input output lent = first (challengesTests sampled digest input output lent)
 
 -- what the record that was lent holds then
 unfoldable pub challengesRecord : List ℕ → List ℕ → List ℕ → List ℕ → List ℕ → List ℕ

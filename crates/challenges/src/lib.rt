@@ -1,5 +1,8 @@
 // The record of challenges: the sampled ones, then four that follow from them and from the claim.
 use air::ChallengeId;
+use air::DIGEST_WORDS;
+use air::RECORD_WORDS;
+use air::SAMPLED_WORDS;
 use cross_table_argument::unchecked::compute_terminal;
 use field::XFieldElement;
 use refusal::Answer;
@@ -13,14 +16,8 @@ ghost use lib.ListN.{length, drop};
 ghost use lib.Seq.{sets};
 ghost use Rattle.field_base.specs.Words.{allBelow};
 ghost use Rattle.field.specs.Element.{wordsOf};
+ghost use Rattle.air.specs.ChallengeId.{RECORD-WORDS, SAMPLED-WORDS};
 ghost use Rattle.challenges.specs.Derived.{terminal, rightLengths, allWordsBelow, derivedRecord, challengesAnswer, challengesRecord};
-
-// Three words an element.
-const SAMPLED_LEN: usize = Challenges::SAMPLE_COUNT * 3;
-
-const RECORD_LEN: usize = Challenges::COUNT * 3;
-
-const DIGEST_LEN: usize = 5;
 
 // The record itself lies in a slice that the caller lends.
 pub struct Challenges {}
@@ -61,10 +58,10 @@ fn right_lengths(
 ) -> bool
     ensures { λ r. ⌜ r ≡ rightLengths (now (sampled .entry)) (now (digest .entry)) (now (input .entry)) (now (output .entry)) (now (lent .entry)) ⌝ }
 {
-    if sampled.len() != SAMPLED_LEN {
+    if sampled.len() != SAMPLED_WORDS {
         return false;
     }
-    if digest.len() != DIGEST_LEN {
+    if digest.len() != DIGEST_WORDS {
         return false;
     }
     if MAX_LEN < input.len() {
@@ -73,7 +70,7 @@ fn right_lengths(
     if MAX_LEN < output.len() {
         return false;
     }
-    if lent.len() != RECORD_LEN {
+    if lent.len() != RECORD_WORDS {
         return false;
     }
     true
@@ -95,7 +92,7 @@ fn all_words_below(sampled: &[u64], digest: &[u64], input: &[u64], output: &[u64
 }
 
 fn derive(sampled: &[u64], digest: &[u64], input: &[u64], output: &[u64], lent: &mut [u64])
-    requires { ⌜ (length (now sampled) ≡ 177) × (length (now lent) ≡ 189) ⌝ }
+    requires { ⌜ (length (now sampled) ≡ SAMPLED-WORDS) × (length (now lent) ≡ RECORD-WORDS) ⌝ }
     requires { ⌜ (allBelow (now digest) ≡ true) × (allBelow (now input) ≡ true) × (allBelow (now output) ≡ true) ⌝ }
     ensures { λ r. ⌜ now (lent .exit) ≡ derivedRecord (now (sampled .entry)) (now (digest .entry)) (now (input .entry)) (now (output .entry)) ⌝ }
 {
@@ -139,7 +136,7 @@ fn write_record(
     digest: XFieldElement,
     lent: &mut [u64],
 )
-    requires { ⌜ (length (now sampled) ≡ 177) × (length (now lent) ≡ 189) ⌝ }
+    requires { ⌜ (length (now sampled) ≡ SAMPLED-WORDS) × (length (now lent) ≡ RECORD-WORDS) ⌝ }
     ensures { λ r. ⌜ now (lent .exit) ≡ now (sampled .entry) ++ wordsOf input ++ wordsOf output ++ wordsOf lookup ++ wordsOf digest ⌝ }
 {
     copy(sampled, lent);

@@ -1,2 +1,2 @@
--- The check's tests in their order.
+-- What a verdict tells.
 pub mod Stages

@@ -1,16 +1,17 @@
 // The caller knows the numerators, the symbols and the indeterminate to be below p.
-use column_compression::unchecked::compress3;
-use column_compression::unchecked::compress4;
+use crate::compress_operands;
+use crate::lift;
+use column_compression::compress4;
 use column_entries::RowFraction;
 use field::XFieldElement;
+use field::reducing::element_mul;
 use field::unchecked::element_add;
-use field::unchecked::element_mul;
 use field::unchecked::element_sub;
 ghost use mathlib.Core.Path.{_≡_};
 ghost use mathlib.Core.List.{[], _∷_};
 ghost use Prim.Native.Nat.{_<_};
 ghost use Rattle.algebra.specs.Modulus.{p};
-ghost use Rattle.field.specs.Element.{Canonical, lift};
+ghost use Rattle.field.specs.Element.{Canonical};
 ghost use Rattle.column_entries.specs.Entries.{one-over};
 ghost use Rattle.column_entries.specs.Row.{weigh};
 ghost use Rattle.column_entries.specs.Contribution.{sumOfFractions, noFraction};
@@ -50,23 +51,6 @@ pub fn two_fractions(
         numerator: element_add(d2, d1),
         denominator: element_mul(d1, d2),
     }
-}
-
-pub fn lift(word: u64) -> XFieldElement
-    ensures { λ r. ⌜ r ≡ lift word ⌝ }
-{
-    XFieldElement {
-        c0: word,
-        c1: 0,
-        c2: 0,
-    }
-}
-
-// Without a result the last weight is left out.
-pub fn compress_operands(weights: [XFieldElement; 4], words: [u64; 3]) -> XFieldElement
-    ensures { λ r. ⌜ (r ≡ weigh weights words) × Canonical r ⌝ }
-{
-    compress3([weights[0], weights[1], weights[2]], words)
 }
 
 // The fraction of a lookup in the u32 table.

@@ -1,12 +1,12 @@
 // The caller knows the current row's words and the indeterminate's to be below p. A window is the previous row, then the current one.
 use air::MainIndex;
 use air::unchecked::word_at;
-use column_compression::unchecked::compress3;
+use column_compression::compress3;
 use column_compression::unchecked::is_padding;
 use column_entries::RowFraction;
+use column_fractions::lift;
 use column_fractions::unchecked::NO_FRACTION;
 use column_fractions::unchecked::fraction;
-use column_fractions::unchecked::lift;
 use field::XFieldElement;
 ghost use mathlib.Core.Path.{_≡_};
 ghost use mathlib.Core.Bool.{true};
@@ -18,7 +18,7 @@ ghost use Rattle.column_entries.specs.Entries.{instructionEntries, clockEntries
 ghost use Rattle.column_entries.specs.Contribution.{sumOfFractions, noFraction};
 
 pub fn fraction_for_instruction_lookup(
-    window: [[u64; 39]; 2],
+    window: [[u64; MainIndex::COUNT]; 2],
     weights: [XFieldElement; 3],
     indeterminate: XFieldElement,
 ) -> RowFraction
@@ -38,7 +38,7 @@ pub fn fraction_for_instruction_lookup(
 }
 
 pub fn fraction_for_clock_jump_difference_lookup(
-    window: [[u64; 39]; 2],
+    window: [[u64; MainIndex::COUNT]; 2],
     indeterminate: XFieldElement,
 ) -> RowFraction
     requires { ⌜ allBelow (getD window 1 []) ≡ true ⌝ }

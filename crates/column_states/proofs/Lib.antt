@@ -1,3 +1,2 @@
--- Laws of weighing, and of the opcode that CI is compared with.
-pub mod Instructions
+-- Laws of weighing.
 pub mod Weighing

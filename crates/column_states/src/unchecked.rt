@@ -10,10 +10,9 @@ use field_base::unchecked::Total;
 use isa::Instruction;
 use scan_steps::AffineMap;
 ghost use mathlib.Core.Path.{_≡_};
-ghost use mathlib.Core.List.{[], _∷_, _++_, map};
+ghost use mathlib.Core.List.{[], _∷_, _++_};
 ghost use Prim.Native.Nat.{_+_, _-_, _≤_};
 ghost use lib.ListN.{length, drop, getD};
-ghost use Rattle.air.specs.Count.{upTo};
 ghost use Rattle.field.specs.Element.{Canonical, zero, sum, scale};
 ghost use Rattle.field.specs.Weighed.{weighedOf, Few};
 ghost use Rattle.isa.specs.Instruction.{opcodeOf};
@@ -76,25 +75,6 @@ pub fn weigh_opcode(
     ensures { λ r. ⌜ (weighedOf r ≡ sum (scale (opcodeOf instruction) (getD weights 0 zero)) (weighedOf state)) × Few 11 r ⌝ }
 {
     weigh_more(isa::opcode(instruction), weights[0], state)
-}
-
-// A state's weights, where no opcode is weighed.
-pub fn state_weights(weights: [XFieldElement; 10]) -> [XFieldElement; 11]
-    ensures { λ r. ⌜ r ≡ zero ∷ map (λ i. getD weights i zero) (upTo 10) ⌝ }
-{
-    [
-        XFieldElement::ZERO,
-        weights[0],
-        weights[1],
-        weights[2],
-        weights[3],
-        weights[4],
-        weights[5],
-        weights[6],
-        weights[7],
-        weights[8],
-        weights[9],
-    ]
 }
 
 // The map of one entry, its words weighed.

@@ -1,51 +1,28 @@
 // The caller knows the rows' words and the indeterminate's to be below p.
 use air::MainIndex;
 use air::unchecked::word_at;
-use column_compression::unchecked::compress4;
+use column_compression::compress4;
 use column_entries::RowFraction;
+use column_fractions::compress_operands;
 use column_fractions::unchecked::NO_FRACTION;
-use column_fractions::unchecked::compress_operands;
 use column_fractions::unchecked::lookup_fraction;
 use column_fractions::unchecked::operands_fraction;
 use column_fractions::unchecked::two_fractions;
 use field::XFieldElement;
+use field_base::reducing::mul;
 use field_base::unchecked::add;
-use field_base::unchecked::mul;
 use field_base::unchecked::sub;
+use isa::opcodes;
 ghost use mathlib.Core.Path.{_≡_};
-ghost use mathlib.Core.Bool.{true, false};
-ghost use mathlib.Core.List.{List, []};
-ghost use Prim.Native.Nat.{ℕ, _<_};
+ghost use mathlib.Core.Bool.{true};
+ghost use mathlib.Core.List.{[]};
+ghost use Prim.Native.Nat.{_<_};
 ghost use lib.ListN.{getD};
 ghost use Rattle.algebra.specs.Modulus.{p};
 ghost use Rattle.field_base.specs.Words.{allBelow};
 ghost use Rattle.field.specs.Element.{Canonical};
-ghost use Rattle.field.specs.declared.XFieldElement.{XFieldElement};
-ghost use Rattle.air.specs.MainColumn.{CI};
-ghost use Rattle.column_entries.specs.Row.{wordAt};
 ghost use Rattle.column_entries.specs.Entries.{u32Entries, andOfXor};
 ghost use Rattle.column_entries.specs.Contribution.{sumOfFractions, noFraction};
-
-// Opcodes of the instructions that look up in the u32 table.
-const SPLIT: u64 = 4;
-
-const LT: u64 = 6;
-
-const LOG_2_FLOOR: u64 = 12;
-
-const AND: u64 = 14;
-
-const DIV_MOD: u64 = 20;
-
-const XOR: u64 = 22;
-
-const POP_COUNT: u64 = 28;
-
-const POW: u64 = 30;
-
-const MERKLE_STEP: u64 = 36;
-
-const MERKLE_STEP_MEM: u64 = 44;
 
 const ONE_HALF: u64 = 9223372034707292161;
 
@@ -57,27 +34,8 @@ fn and_from_xor(a: u64, b: u64, xor: u64) -> u64
     mul(sub(add(a, b), xor), ONE_HALF)
 }
 
-// Whether an instruction with this opcode in the previous row looks up in the u32 table.
-pub fn looks_up_u32(ci: u64) -> bool
-    ensures { λ r. ⌜ (r ≡ false → (weights : List XFieldElement) (prev curr : List ℕ) → ci ≡ wordAt prev CI → u32Entries weights prev curr ≡ []) ⌝ }
-{
-    match ci {
-        SPLIT
-        | LT
-        | LOG_2_FLOOR
-        | AND
-        | DIV_MOD
-        | XOR
-        | POP_COUNT
-        | POW
-        | MERKLE_STEP
-        | MERKLE_STEP_MEM => true,
-        _ => false,
-    }
-}
-
 pub fn fraction_for_u32_lookup(
-    window: [[u64; 39]; 2],
+    window: [[u64; MainIndex::COUNT]; 2],
     weights: [XFieldElement; 4],
     indeterminate: XFieldElement,
 ) -> RowFraction
@@ -92,28 +50,32 @@ pub fn fraction_for_u32_lookup(
     let st0 = word_at(&window[1], MainIndex::ST0);
     let st1 = word_at(&window[1], MainIndex::ST1);
     match previous_ci {
-        SPLIT => operands_fraction([st0, st1, SPLIT], weights, indeterminate),
-        LT | AND | POW => lookup_fraction(
+        opcodes::SPLIT => operands_fraction([st0, st1, opcodes::SPLIT], weights, indeterminate),
+        opcodes::LT | opcodes::AND | opcodes::POW => lookup_fraction(
             [st0_prev, st1_prev, previous_ci, st0],
             weights,
             indeterminate,
         ),
-        XOR => {
+        opcodes::XOR => {
             let and = and_from_xor(st0_prev, st1_prev, st0);
-            lookup_fraction([st0_prev, st1_prev, AND, and], weights, indeterminate)
+            lookup_fraction(
+                [st0_prev, st1_prev, opcodes::AND, and],
+                weights,
+                indeterminate,
+            )
         }
-        LOG_2_FLOOR | POP_COUNT => {
+        opcodes::LOG_2_FLOOR | opcodes::POP_COUNT => {
             lookup_fraction([st0_prev, 0, previous_ci, st0], weights, indeterminate)
         }
-        DIV_MOD => {
-            let lt_check = compress4(weights, [st0, st1_prev, LT, 1]);
-            let range_check = compress_operands(weights, [st0_prev, st1, SPLIT]);
+        opcodes::DIV_MOD => {
+            let lt_check = compress4(weights, [st0, st1_prev, opcodes::LT, 1]);
+            let range_check = compress_operands(weights, [st0_prev, st1, opcodes::SPLIT]);
             two_fractions(lt_check, range_check, indeterminate)
         }
-        MERKLE_STEP | MERKLE_STEP_MEM => {
+        opcodes::MERKLE_STEP | opcodes::MERKLE_STEP_MEM => {
             let st5_prev = word_at(&window[0], MainIndex::ST5);
             let st5 = word_at(&window[1], MainIndex::ST5);
-            operands_fraction([st5_prev, st5, SPLIT], weights, indeterminate)
+            operands_fraction([st5_prev, st5, opcodes::SPLIT], weights, indeterminate)
         }
         _ => NO_FRACTION,
     }

@@ -1,22 +1,23 @@
-// The caller knows the record to have 189 words.
+// The caller knows the record to be whole.
 use air::ChallengeId;
 use field::XFieldElement;
 ghost use mathlib.Core.Path.{_≡_};
 ghost use Prim.Native.Nat.{_<_};
 ghost use lib.ListN.{length};
+ghost use Rattle.air.specs.ChallengeId.{RECORD-WORDS, COUNT};
 ghost use Rattle.challenges.specs.Derived.{challengeAt};
 ghost use Rattle.column_entries.specs.Columns.{instruction, opStack, ram, jumpStack, hashInput, hashDigest, sponge, u32, weights};
 
 pub fn challenge(challenges: &[u64], id: ChallengeId) -> XFieldElement
-    requires { ⌜ length (now challenges) ≡ 189 ⌝ }
-    requires { ⌜ id .0 < 63 ⌝ }
+    requires { ⌜ length (now challenges) ≡ RECORD-WORDS ⌝ }
+    requires { ⌜ id .0 < COUNT ⌝ }
     ensures { λ r. ⌜ r ≡ challengeAt (now (challenges .entry)) (id .0) ⌝ }
 {
     field::unchecked::element_at(challenges, id.0 * 3)
 }
 
 pub fn instruction_weights(challenges: &[u64]) -> [XFieldElement; 3]
-    requires { ⌜ length (now challenges) ≡ 189 ⌝ }
+    requires { ⌜ length (now challenges) ≡ RECORD-WORDS ⌝ }
     ensures { λ r. ⌜ r ≡ weights instruction (now (challenges .entry)) ⌝ }
 {
     [
@@ -27,7 +28,7 @@ pub fn instruction_weights(challenges: &[u64]) -> [XFieldElement; 3]
 }
 
 pub fn op_stack_weights(challenges: &[u64]) -> [XFieldElement; 4]
-    requires { ⌜ length (now challenges) ≡ 189 ⌝ }
+    requires { ⌜ length (now challenges) ≡ RECORD-WORDS ⌝ }
     ensures { λ r. ⌜ r ≡ weights opStack (now (challenges .entry)) ⌝ }
 {
     [
@@ -42,7 +43,7 @@ pub fn op_stack_weights(challenges: &[u64]) -> [XFieldElement; 4]
 }
 
 pub fn ram_weights(challenges: &[u64]) -> [XFieldElement; 4]
-    requires { ⌜ length (now challenges) ≡ 189 ⌝ }
+    requires { ⌜ length (now challenges) ≡ RECORD-WORDS ⌝ }
     ensures { λ r. ⌜ r ≡ weights ram (now (challenges .entry)) ⌝ }
 {
     [
@@ -54,7 +55,7 @@ pub fn ram_weights(challenges: &[u64]) -> [XFieldElement; 4]
 }
 
 pub fn jump_stack_weights(challenges: &[u64]) -> [XFieldElement; 5]
-    requires { ⌜ length (now challenges) ≡ 189 ⌝ }
+    requires { ⌜ length (now challenges) ≡ RECORD-WORDS ⌝ }
     ensures { λ r. ⌜ r ≡ weights jumpStack (now (challenges .entry)) ⌝ }
 {
     [
@@ -67,7 +68,7 @@ pub fn jump_stack_weights(challenges: &[u64]) -> [XFieldElement; 5]
 }
 
 pub fn hash_input_weights(challenges: &[u64]) -> [XFieldElement; 10]
-    requires { ⌜ length (now challenges) ≡ 189 ⌝ }
+    requires { ⌜ length (now challenges) ≡ RECORD-WORDS ⌝ }
     ensures { λ r. ⌜ r ≡ weights hashInput (now (challenges .entry)) ⌝ }
 {
     [
@@ -85,7 +86,7 @@ pub fn hash_input_weights(challenges: &[u64]) -> [XFieldElement; 10]
 }
 
 pub fn hash_digest_weights(challenges: &[u64]) -> [XFieldElement; 5]
-    requires { ⌜ length (now challenges) ≡ 189 ⌝ }
+    requires { ⌜ length (now challenges) ≡ RECORD-WORDS ⌝ }
     ensures { λ r. ⌜ r ≡ weights hashDigest (now (challenges .entry)) ⌝ }
 {
     [
@@ -98,7 +99,7 @@ pub fn hash_digest_weights(challenges: &[u64]) -> [XFieldElement; 5]
 }
 
 pub fn sponge_weights(challenges: &[u64]) -> [XFieldElement; 11]
-    requires { ⌜ length (now challenges) ≡ 189 ⌝ }
+    requires { ⌜ length (now challenges) ≡ RECORD-WORDS ⌝ }
     ensures { λ r. ⌜ r ≡ weights sponge (now (challenges .entry)) ⌝ }
 {
     [
@@ -117,7 +118,7 @@ pub fn sponge_weights(challenges: &[u64]) -> [XFieldElement; 11]
 }
 
 pub fn u32_weights(challenges: &[u64]) -> [XFieldElement; 4]
-    requires { ⌜ length (now challenges) ≡ 189 ⌝ }
+    requires { ⌜ length (now challenges) ≡ RECORD-WORDS ⌝ }
     ensures { λ r. ⌜ r ≡ weights u32 (now (challenges .entry)) ⌝ }
 {
     [

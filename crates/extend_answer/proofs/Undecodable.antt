@@ -1,6 +1,6 @@
--- A loop over the rows, where one that does not decode decides and one that does leaves the others to; and what is turned away.
+-- A loop over the rows, where one that does not decode decides and one that does leaves the others to.
 use mathlib.Core.Path.{_≡_, refl, sym, ap, _∙_}
-use mathlib.Core.Bool.{Bool, true, false, cond, not, _&&_, and-assoc}
+use mathlib.Core.Bool.{true, false, _&&_, and-assoc}
 use mathlib.Core.List.{List, [], _∷_, _++_}
 use Prim.Native.Nat.{ℕ, suc, _+_, _-_, _*_, _≤_, _<_}
 use native.Mathlib.Omega.{arith}
@@ -9,15 +9,9 @@ use lib.ListN.{drop, take-append-drop}
 use lib.Seq.{drop-drop}
 use Rattle.algebra.specs.Modulus.{p}
 use Rattle.field_base.specs.Words.{allBelow}
-use borrow.Author.Tests.{not-false}
-use Rattle.refusal.specs.declared.Refusal.{Refusal}
-use Rattle.refusal.specs.declared.Answer.{Answer}
-use Rattle.refusal.specs.declared.Answer.the-variants.{Done, Refused}
-use Rattle.refusal.specs.declared.Refusal.the-variants.{WordNotBelowP, ZeroDenominator, UndecodableRow}
-use Rattle.refusal.proofs.Answers.{past}
 use Rattle.table_rows.specs.Rows.{rowAt}
 use Rattle.column_entries.specs.Row.{instructionOf}
-use Rattle.extend_answer.specs.Strict.{isRead, undecodableFrom, behindEleven, turnedAway}
+use Rattle.extend_answer.specs.Strict.{isRead, undecodableFrom}
 
 -- a row and what follows it
 row-and-rest : (main : List ℕ) (c : ℕ) → drop (c * 39) main ≡ rowAt main c ++ drop ((c + 1) * 39) main
@@ -56,33 +50,3 @@ module _ (main : List ℕ) (c n : ℕ) where
   pub no-row-left : n ≤ c → undecodableFrom main c (n - c) ≡ false
   unfolding undecodableFrom
   no-row-left h = let e : n - c ≡ 0 = omega arith in ap (undecodableFrom main c) e
-
--- 1, 3, 5 and 2 stand before 11
-before-eleven : (t : Bool) (a : Answer) → behindEleven a ≡ false → turnedAway t a ≡ a
-before-eleven false a e = refl
-before-eleven true a e = rw e
-
-pub still : (t : Bool) {a b : Answer} → a ≡ b → behindEleven b ≡ false → turnedAway t a ≡ b
-still t e f = ap (turnedAway t) e ∙ before-eleven t _ f
-
--- the table's own tests in one, where 2 stands before 11 and 6 behind it
-abbrev tests : (below turn : Bool) → Answer
-tests below turn = cond (not below) (Refused WordNotBelowP) (cond turn (Refused UndecodableRow) Done)
-
-abbrev pub answers : (below zero : Bool) → Answer
-answers below zero = cond (not below) (Refused WordNotBelowP) (cond zero (Refused ZeroDenominator) Done)
-
-pub refused-by-rows : (below turn zero : Bool) {r : Refusal} → tests below turn ≡ Refused r → turnedAway turn (answers below zero) ≡ Refused r
-refused-by-rows false false zero e = e
-refused-by-rows false true zero e = e
-refused-by-rows true true true e = e
-refused-by-rows true true false e = e
-refused-by-rows true false zero e = let z : _≡_ {A = ℕ} 0 1 = cc in absurd (omega arith)
-
-pub past-rows : (below turn : Bool) → tests below turn ≡ Done → (below ≡ true) × (turn ≡ false)
-past-rows below turn e =
-    let words = past (not below) WordNotBelowP (cond turn (Refused UndecodableRow) Done) e in
-    (not-false below (words .0), past turn UndecodableRow Done (words .1) .0)
-
-pub done-plainly : (t : Bool) (a : Answer) → turnedAway t a ≡ Done → a ≡ Done
-done-plainly t a e = past (t && behindEleven a) UndecodableRow a e .1

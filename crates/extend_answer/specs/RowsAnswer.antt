@@ -1,12 +1,11 @@
 -- A step of the code: the tests of the table's own words, 2 and then 11.
-use mathlib.Core.Bool.{Bool, cond, not, _&&_}
-use mathlib.Core.List.{List}
+use mathlib.Core.Bool.{Bool}
+use mathlib.Core.List.{List, [], _∷_}
 use Prim.Native.Nat.{ℕ}
+use Rattle.refusal.specs.Tests.{first}
 use Rattle.refusal.specs.declared.Answer.{Answer}
-use Rattle.refusal.specs.declared.Answer.the-variants.{Done, Refused}
-use Rattle.refusal.specs.declared.Refusal.the-variants.{WordNotBelowP, UndecodableRow}
-use Rattle.field_base.specs.Words.{allBelow}
-use Rattle.extend_answer.specs.Strict.{undecodable}
+use Rattle.extend_answer.specs.Answer.{wordsTest}
+use Rattle.extend_answer.specs.Strict.{decodingTest}
 
 abbrev pub rowsAnswer : Bool → List ℕ → Answer
-rowsAnswer strict main = cond (not (allBelow main)) (Refused WordNotBelowP) (cond (strict && undecodable main) (Refused UndecodableRow) Done)
+rowsAnswer strict main = first (wordsTest (main ∷ []) ∷ decodingTest strict main ∷ [])

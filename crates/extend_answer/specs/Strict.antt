@@ -1,17 +1,16 @@
 -- What strict extension answers. Document 02, Two: "11, strict extension only, some row undecodable, after 2 and before 6."
-use mathlib.Core.Bool.{Bool, true, false, cond, not, _&&_, _||_}
-use mathlib.Core.List.{List}
+use mathlib.Core.Bool.{Bool, true, false, not, _&&_, _||_}
+use mathlib.Core.List.{List, [], _∷_, _++_}
 use Prim.Native.Nat.{ℕ, zero, suc}
-use lib.Dec.{eqb}
-use Rattle.refusal.specs.Number.{answerNumberOf}
+use Rattle.refusal.specs.Tests.{Test, Tests, _when_, first}
 use Rattle.refusal.specs.declared.Answer.{Answer}
-use Rattle.refusal.specs.declared.Answer.the-variants.{Refused}
 use Rattle.refusal.specs.declared.Refusal.the-variants.{UndecodableRow}
 use Rattle.isa_decoding.specs.declared.Decoded.{Decoded}
 use Rattle.isa_decoding.specs.declared.Decoded.the-variants.{Read, Unknown, Outside}
 use Rattle.table_rows.specs.Rows.{rows, rowAt}
 use Rattle.column_entries.specs.Row.{instructionOf}
-use Rattle.extend_answer.specs.Answer.{extendAnswer}
+use Rattle.column_entries.specs.Denominators.{zeroUpTo}
+use Rattle.extend_answer.specs.Answer.{testsThroughTwo, denominatorTest}
 
 abbrev pub isRead : Decoded → Bool
 isRead (Read i) = true
@@ -27,17 +26,18 @@ undecodableFrom main c (suc n) = not (isRead (instructionOf (rowAt main c))) || 
 abbrev pub undecodable : List ℕ → Bool
 undecodable main = undecodableFrom main 0 (rows main)
 
--- extension's answers that stand behind 11: 6, and 0
-abbrev pub behindEleven : Answer → Bool
-behindEleven answer = eqb (answerNumberOf answer) 6 || eqb (answerNumberOf answer) 0
+-- extension's tests with one put in, which only strict extension makes
+abbrev pub decodingTest : Bool → List ℕ → Test
+decodingTest strict main = UndecodableRow when strict && undecodable main
 
-abbrev pub turnedAway : Bool → Answer → Answer
-turnedAway turn answer = cond (turn && behindEleven answer) (Refused UndecodableRow) answer
+abbrev pub testsIn : Bool → List ℕ → List ℕ → ℕ → List ℕ → List ℕ → Tests
+testsIn strict main challenges chunk aux work =
+    testsThroughTwo main challenges chunk aux work ++ decodingTest strict main ∷ denominatorTest main challenges ∷ []
 
 -- strict or not
 abbrev pub answerIn : Bool → List ℕ → List ℕ → ℕ → List ℕ → List ℕ → Answer
-answerIn strict main challenges chunk aux work = turnedAway (strict && undecodable main) (extendAnswer main challenges chunk aux work)
+answerIn strict main challenges chunk aux work = first (testsIn strict main challenges chunk aux work)
 
 unfoldable pub strictAnswer : List ℕ → List ℕ → ℕ → List ℕ → List ℕ → Answer
-unfolding undecodableFrom extendAnswer
+unfolding undecodableFrom zeroUpTo
 strictAnswer main challenges chunk aux work = answerIn true main challenges chunk aux work

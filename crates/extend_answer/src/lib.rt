@@ -1,5 +1,7 @@
 // What extension answers, strict or not, before it writes a word.
+use air::AUX_WORDS;
 use air::MainIndex;
+use air::RECORD_WORDS;
 use column_compression::unchecked::instruction_from_row;
 use extend_denominators::unchecked::has_zero_denominator;
 use isa_decoding::Decoded;
@@ -17,6 +19,9 @@ ghost use Rattle.extend_answer.specs.Answer.{rightLengths};
 ghost use Rattle.extend_answer.specs.Strict.{answerIn};
 ghost use Rattle.extend_answer.specs.RowsAnswer.{rowsAnswer};
 
+// What a started chunk has of `work`: the product of its denominators, and its inverse.
+pub const WORK_WORDS: usize = 6;
+
 pub fn right_lengths(main: &[u64], challenges: &[u64], aux: &[u64]) -> bool
     ensures { λ r. ⌜ r ≡ rightLengths (now (main .entry)) (now (challenges .entry)) (now (aux .entry)) ⌝ }
 {
@@ -24,10 +29,10 @@ pub fn right_lengths(main: &[u64], challenges: &[u64], aux: &[u64]) -> bool
     if main.len() % MainIndex::COUNT != 0 {
         return false;
     }
-    if aux.len() != rows * 33 {
+    if aux.len() != rows * AUX_WORDS {
         return false;
     }
-    if challenges.len() != 189 {
+    if challenges.len() != RECORD_WORDS {
         return false;
     }
     true
@@ -95,7 +100,7 @@ pub fn extend_answer(
     if chunk == 0 {
         return Answer::Refused(Refusal::ChunkLengthZero);
     }
-    if work.len() != started_chunks(rows, chunk) * 6 {
+    if work.len() != started_chunks(rows, chunk) * WORK_WORDS {
         return Answer::Refused(Refusal::SliceLength);
     }
     if !field_base::all_below(challenges) {

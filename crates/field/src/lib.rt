@@ -7,7 +7,8 @@ ghost use mathlib.Core.List.{[], _∷_};
 ghost use Rattle.field.specs.Element.{canonical, isZero, zero, one, X};
 ghost use Rattle.field.specs.Answers.{elementAdd, elementSub, elementMul, elementScale, elementInverse};
 
-// The same operations for callers that know their words to be below p.
+// The same operations for callers that know their words to be below p; products of any words.
+pub mod reducing;
 pub mod unchecked;
 
 // c0 + c1·X + c2·X² modulo X³ - X + 1.
@@ -110,7 +111,7 @@ pub fn element_mul(a: XFieldElement, b: XFieldElement) -> ElementAnswer
     if !both_canonical(a, b) {
         return ElementAnswer::Refused(Refusal::WordNotBelowP);
     }
-    ElementAnswer::Element(unchecked::element_mul(a, b))
+    ElementAnswer::Element(reducing::element_mul(a, b))
 }
 
 // A base word times an element.
@@ -123,7 +124,7 @@ pub fn element_scale(k: u64, a: XFieldElement) -> ElementAnswer
     if !is_canonical(a) {
         return ElementAnswer::Refused(Refusal::WordNotBelowP);
     }
-    ElementAnswer::Element(unchecked::element_scale(k, a))
+    ElementAnswer::Element(reducing::element_scale(k, a))
 }
 
 pub fn element_inverse(a: XFieldElement) -> ElementAnswer

@@ -4,7 +4,8 @@ ghost use mathlib.Core.Path.{_≡_};
 ghost use Rattle.field_base.specs.Words.{allBelow};
 ghost use Rattle.field_base.specs.Answers.{baseAdd, baseSub, baseMul, baseInverse};
 
-// The same operations for callers that know their words to be below p.
+// The same operations for callers that know their words to be below p; products and inverses of any words.
+pub mod reducing;
 pub mod unchecked;
 
 pub const P: u64 = 18446744069414584321;
@@ -61,7 +62,7 @@ pub fn mul(a: u64, b: u64) -> BaseAnswer
     if P <= b {
         return BaseAnswer::Refused(Refusal::WordNotBelowP);
     }
-    BaseAnswer::Word(unchecked::mul(a, b))
+    BaseAnswer::Word(reducing::mul(a, b))
 }
 
 pub fn inverse(a: u64) -> BaseAnswer
@@ -73,5 +74,5 @@ pub fn inverse(a: u64) -> BaseAnswer
     if a == 0 {
         return BaseAnswer::Refused(Refusal::ZeroDenominator);
     }
-    BaseAnswer::Word(unchecked::inverse(a))
+    BaseAnswer::Word(reducing::inverse(a))
 }

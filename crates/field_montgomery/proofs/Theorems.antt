@@ -1,7 +1,7 @@
 -- The statements of specs/Theorems.antt, proved.
 use mathlib.Core.Path.{_≡_, refl, sym, ap, ap₂, _∙_}
 use mathlib.Core.Logic.{_≢_}
-use mathlib.Core.Bool.{Bool, true, false, cond, _&&_}
+use mathlib.Core.Bool.{Bool, true, false}
 use mathlib.Core.List.{[], _∷_}
 use Prim.Native.Nat.{ℕ, zero, suc, _*_, _%_, _<_}
 use native.Mathlib.Nat.{mod-lt, mul-assoc}
@@ -13,8 +13,9 @@ use Rattle.algebra.proofs.Base.{p-positive, BaseRing, el, el-injective, el-time
 use Rattle.algebra.proofs.FieldLaws.{unit-unique}
 use Rattle.algebra.proofs.Residues.{mod-mul-mod}
 use Rattle.algebra.proofs.Solver.{_⊕_, _⊗_, solve, v0, v1, v2}
-use Rattle.refusal.specs.declared.Refusal.the-variants.{ZeroDenominator}
-use Rattle.field_base.specs.Answers.{baseChecked, baseInverse}
+use Rattle.refusal.specs.Tests.{_when_, _unless_, firstOr}
+use Rattle.refusal.specs.declared.Refusal.the-variants.{WordNotBelowP, ZeroDenominator}
+use Rattle.field_base.specs.Answers.{wordsTests, inverseTests, baseInverse}
 use Rattle.field_base.specs.declared.BaseAnswer.{BaseAnswer}
 use Rattle.field_base.specs.declared.BaseAnswer.the-variants.{Word, Refused}
 use Rattle.field_montgomery.specs.Form.{RADIX, toMontgomery, fromMontgomery, montgomeryProduct, montgomeryInverse}
@@ -75,18 +76,18 @@ through-inverse a lo hi =
     ∙ ap toMontgomery (to-inverse a lo hi)
 
 -- an operation on two words, through both conversions
-both : {a b : ℕ} (x : BaseAnswer) → a < p → b < p → baseChecked (ltb a p && ltb b p) x ≡ x
+both : {a b : ℕ} (x : BaseAnswer) → a < p → b < p → firstOr Refused (wordsTests a b) x ≡ x
 both {a} {b} x h k = rw (lt-ltb a p h, lt-ltb b p k)
 
 module _ (f g : ℕ → ℕ → ℕ) (e : (a b : ℕ) → f (toMontgomery a) (toMontgomery b) ≡ toMontgomery (g a b)) (below : (a b : ℕ) → g a b < p) where
   to-both : (a b : ℕ) → a < p → b < p
-      → baseChecked (ltb (toMontgomery a) p && ltb (toMontgomery b) p) (Word (f (toMontgomery a) (toMontgomery b)))
-      ≡ through toMontgomery (baseChecked (ltb a p && ltb b p) (Word (g a b)))
+      → firstOr Refused (wordsTests (toMontgomery a) (toMontgomery b)) (Word (f (toMontgomery a) (toMontgomery b)))
+      ≡ through toMontgomery (firstOr Refused (wordsTests a b) (Word (g a b)))
   to-both a b h k = both _ (conversions .to-below a) (conversions .to-below b) ∙ ap Word (e a b) ∙ sym (ap (through toMontgomery) (both _ h k))
 
   from-both : (a b : ℕ) → a < p → b < p
-      → through fromMontgomery (baseChecked (ltb a p && ltb b p) (Word (f a b)))
-      ≡ baseChecked (ltb (fromMontgomery a) p && ltb (fromMontgomery b) p) (Word (g (fromMontgomery a) (fromMontgomery b)))
+      → through fromMontgomery (firstOr Refused (wordsTests a b) (Word (f a b)))
+      ≡ firstOr Refused (wordsTests (fromMontgomery a) (fromMontgomery b)) (Word (g (fromMontgomery a) (fromMontgomery b)))
   from-both a b h k =
       ap (through fromMontgomery) (both _ h k)
       ∙ ap Word
@@ -95,7 +96,7 @@ module _ (f g : ℕ → ℕ → ℕ) (e : (a b : ℕ) → f (toMontgomery a) (to
       ∙ sym (both _ (conversions .from-below a) (conversions .from-below b))
 
 -- inverses
-inverted : {a : ℕ} (w : ℕ) → a ≢ 0 → a < p → baseChecked (ltb a p) (cond (eqb a 0) (Refused ZeroDenominator) (Word w)) ≡ Word w
+inverted : {a : ℕ} (w : ℕ) → a ≢ 0 → a < p → firstOr Refused (inverseTests a) (Word w) ≡ Word w
 inverted {a} w ne h = rw (lt-ltb a p h, ne-eqb a 0 ne)
 
 inverse-through : (a : ℕ) → a < p → montgomeryInverted (toMontgomery a) ≡ through toMontgomery (baseInverse a)
@@ -111,7 +112,7 @@ inverse-back (suc a) h =
     let e = inverted {a = suc a} (inverse (suc a)) (omega arith) h in
     ap (λ x. through fromMontgomery (through toMontgomery x)) e ∙ ap Word (conversions .from-to _ (base-inverse-below (suc a))) ∙ sym e
 
-refused : (below none : Bool) (w : ℕ) → baseChecked below (cond none (Refused ZeroDenominator) (Word w)) ≡ Refused ZeroDenominator → none ≡ true
+refused : (below none : Bool) (w : ℕ) → firstOr Refused ((WordNotBelowP unless below) ∷ (ZeroDenominator when none) ∷ []) (Word w) ≡ Refused ZeroDenominator → none ≡ true
 refused true true w e = refl
 refused true false w e = cc
 refused false none w e = cc

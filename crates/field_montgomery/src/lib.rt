@@ -11,7 +11,8 @@ pub enum Form {
     Montgomery,
 }
 
-// The same operations for callers that know their words to be below p.
+// The same operations for callers that know their words to be below p; conversions and inverses of any words.
+pub mod reducing;
 pub mod unchecked;
 
 pub fn to_montgomery(a: u64) -> BaseAnswer
@@ -20,7 +21,7 @@ pub fn to_montgomery(a: u64) -> BaseAnswer
     if P <= a {
         return BaseAnswer::Refused(Refusal::WordNotBelowP);
     }
-    BaseAnswer::Word(unchecked::to_montgomery(a))
+    BaseAnswer::Word(reducing::to_montgomery(a))
 }
 
 pub fn from_montgomery(a: u64) -> BaseAnswer
@@ -29,7 +30,7 @@ pub fn from_montgomery(a: u64) -> BaseAnswer
     if P <= a {
         return BaseAnswer::Refused(Refusal::WordNotBelowP);
     }
-    BaseAnswer::Word(unchecked::from_montgomery(a))
+    BaseAnswer::Word(reducing::from_montgomery(a))
 }
 
 pub fn add(a: u64, b: u64) -> BaseAnswer
@@ -59,5 +60,5 @@ pub fn inverse(a: u64) -> BaseAnswer
     if a == 0 {
         return BaseAnswer::Refused(Refusal::ZeroDenominator);
     }
-    BaseAnswer::Word(unchecked::inverse(a))
+    BaseAnswer::Word(reducing::inverse(a))
 }

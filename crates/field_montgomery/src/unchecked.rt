@@ -1,18 +1,12 @@
 // The operations on words that the caller knows to be below p.
-use crate::Form;
+use field_base::reducing::first_product;
 use field_base::unchecked::Sum;
-use field_base::unchecked::first_product;
 use field_base::unchecked::sub;
 ghost use mathlib.Core.Path.{_≡_};
 ghost use Prim.Native.Nat.{_<_};
 ghost use Rattle.algebra.specs.Modulus.{p};
 ghost use Rattle.field_base.specs.Totals.{sumOf};
-ghost use Rattle.field_montgomery.specs.Form.{toMontgomery, fromMontgomery, montgomeryProduct, montgomeryInverse, plainWord, wordIn};
-
-// 2^64, 2^128 modulo p.
-const RADIX: u64 = 4294967295;
-
-const RADIX_SQUARED: u64 = 18446744065119617025;
+ghost use Rattle.field_montgomery.specs.Form.{fromMontgomery, montgomeryProduct};
 
 // Montgomery's reduction: a product of two words is divided by 2^64. Modulo 2^64 the inverse of p is 2^32 + 1, so that q is two words' sum, and q·p,
 // which ends on the product's low word, is q·2^64 less q·2^32 - q.
@@ -33,43 +27,4 @@ pub fn mul(a: u64, b: u64) -> u64
     ensures { λ r. ⌜ r ≡ montgomeryProduct a b ⌝ }
 {
     reduce(first_product(a, b))
-}
-
-pub fn to_montgomery(a: u64) -> u64
-    ensures { λ r. ⌜ r ≡ toMontgomery a ⌝ }
-{
-    field_base::unchecked::mul(a, RADIX)
-}
-
-pub fn from_montgomery(a: u64) -> u64
-    ensures { λ r. ⌜ r ≡ fromMontgomery a ⌝ }
-{
-    mul(1, a)
-}
-
-// 0 gives 0.
-pub fn inverse(a: u64) -> u64
-    ensures { λ r. ⌜ r ≡ montgomeryInverse a ⌝ }
-{
-    field_base::unchecked::mul(field_base::unchecked::inverse(a), RADIX_SQUARED)
-}
-
-// A word that is kept in the form, as a plain one.
-pub fn plain_word(form: Form, word: u64) -> u64
-    ensures { λ r. ⌜ r ≡ plainWord form word ⌝ }
-{
-    match form {
-        Form::Plain => word,
-        Form::Montgomery => from_montgomery(word),
-    }
-}
-
-// A plain word in the form.
-pub fn word_in(form: Form, word: u64) -> u64
-    ensures { λ r. ⌜ r ≡ wordIn form word ⌝ }
-{
-    match form {
-        Form::Plain => word,
-        Form::Montgomery => to_montgomery(word),
-    }
 }

@@ -8,11 +8,13 @@ use text::unchecked::put_bytes;
 use text::unchecked::put_decimal;
 use text::unchecked::put_word;
 ghost use mathlib.Core.Path.{_≡_};
-ghost use Prim.Native.Nat.{_+_, _≤_, _<_};
+ghost use Prim.Native.Nat.{_+_, _*_, _≤_, _<_};
 ghost use lib.ListN.{length};
 ghost use lib.Seq.{sets};
+ghost use Rattle.air.specs.MainColumn.{MAIN-WIDTH};
 ghost use Rattle.table_rows.specs.Rows.{rows};
 ghost use Rattle.air_names.specs.Instruction.{nameOf};
+ghost use Rattle.batch_commands.specs.Format.{MAX-ROWS};
 ghost use Rattle.inspect_text.specs.Text.{limits, unknownText, outsideText, numbersText, line, rowText, lines, traceText};
 
 fn put_name(i: Instruction, out: &mut [u8], at: usize) -> usize
@@ -94,7 +96,7 @@ fn put_line(row: usize, ci: u64, nia: u64, out: &mut [u8], at: usize) -> usize
 }
 
 fn put_row(words: &[u64], row: usize, out: &mut [u8], at: usize) -> usize
-    requires { ⌜ (length (now words) ≡ 39) × (row < 100) × (at + 114 ≤ length (now out)) ⌝ }
+    requires { ⌜ (length (now words) ≡ MAIN-WIDTH) × (row < 100) × (at + 114 ≤ length (now out)) ⌝ }
     ensures end { λ r. ⌜ (r ≡ at + length (rowText (now (words .entry)) row)) × (r ≤ at + 114) ⌝ }
     ensures text { λ r. ⌜ now (out .exit) ≡ sets (now (out .entry)) at (rowText (now (words .entry)) row) ⌝ }
 {
@@ -105,8 +107,8 @@ fn put_row(words: &[u64], row: usize, out: &mut [u8], at: usize) -> usize
 
 // At the start of `out`.
 fn put_lines(trace: &[u64], out: &mut [u8]) -> usize
-    requires { ⌜ (rows (now trace) ≤ 32) × (3648 ≤ length (now out)) ⌝ }
-    ensures end { λ r. ⌜ (r ≡ length (lines (now (trace .entry)))) × (r ≤ 3648) ⌝ }
+    requires { ⌜ (rows (now trace) ≤ MAX-ROWS) × (MAX-ROWS * 114 ≤ length (now out)) ⌝ }
+    ensures end { λ r. ⌜ (r ≡ length (lines (now (trace .entry)))) × (r ≤ MAX-ROWS * 114) ⌝ }
     ensures text { λ r. ⌜ now (out .exit) ≡ sets (now (out .entry)) 0 (lines (now (trace .entry))) ⌝ }
 {
     let rows = trace.len() / MainIndex::COUNT;
@@ -123,8 +125,8 @@ fn put_lines(trace: &[u64], out: &mut [u8]) -> usize
 
 // The lines of a trace's rows, or one that says that all decode, at the start of `out`.
 pub fn put_trace(trace: &[u64], out: &mut [u8]) -> usize
-    requires { ⌜ (rows (now trace) ≤ 32) × (3648 ≤ length (now out)) ⌝ }
-    ensures end { λ r. ⌜ (r ≡ length (traceText (now (trace .entry)))) × (r ≤ 3648) ⌝ }
+    requires { ⌜ (rows (now trace) ≤ MAX-ROWS) × (MAX-ROWS * 114 ≤ length (now out)) ⌝ }
+    ensures end { λ r. ⌜ (r ≡ length (traceText (now (trace .entry)))) × (r ≤ MAX-ROWS * 114) ⌝ }
     ensures text { λ r. ⌜ now (out .exit) ≡ sets (now (out .entry)) 0 (traceText (now (trace .entry))) ⌝ }
 {
     let end = put_lines(trace, out);

@@ -1,12 +1,11 @@
 -- What decoding a row answers. Document 01: "Decode: 1 unless 39 words; 2."
-use mathlib.Core.Bool.{cond, not}
 use mathlib.Core.List.{List, [], _∷_}
 use Prim.Native.Nat.{ℕ}
 use lib.Dec.{eqb}
 use lib.ListN.{length, getD}
 use Rattle.air.specs.MainColumn.{MAIN-WIDTH, CI, NIA}
 use Rattle.field_base.specs.Words.{allBelow}
-use Rattle.refusal.specs.Number.{numberOf}
+use Rattle.refusal.specs.Tests.{numberOf, Tests, _unless_, firstOr}
 use Rattle.refusal.specs.declared.Refusal.the-variants.{SliceLength, WordNotBelowP}
 use Rattle.isa.specs.Instruction.{opcodeOf}
 use Rattle.isa_decoding.specs.Decode.{decoded}
@@ -17,11 +16,11 @@ use Rattle.isa_decoding.specs.declared.Class.the-variants.{StackElement,
 use Rattle.isa_decoding.specs.declared.DecodeAnswer.{DecodeAnswer}
 use Rattle.isa_decoding.specs.declared.DecodeAnswer.the-variants.{Refused, Row}
 
+abbrev pub decodeTests : List ℕ → Tests
+decodeTests row = (SliceLength unless eqb (length row) MAIN-WIDTH) ∷ (WordNotBelowP unless allBelow row) ∷ []
+
 unfoldable pub decodeAnswer : List ℕ → DecodeAnswer
-decodeAnswer row =
-    cond (not (eqb (length row) MAIN-WIDTH)) (Refused SliceLength)
-    (cond (not (allBelow row)) (Refused WordNotBelowP)
-    (Row (decoded (getD row CI 0) (getD row NIA 0))))
+decodeAnswer row = firstOr Refused (decodeTests row) (Row (decoded (getD row CI 0) (getD row NIA 0)))
 
 -- the answer's number: 0, or the refusal's
 abbrev pub answerNumber : DecodeAnswer → ℕ

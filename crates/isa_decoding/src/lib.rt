@@ -149,7 +149,7 @@ pub fn instruction_from(ci: u64, nia: u64) -> Decoded
     instruction_from_byte(ci as u8, nia)
 }
 
-// The instruction of a row: SliceLength unless it has 39 words, then WordNotBelowP unless all are below p.
+// The instruction of a row: SliceLength unless it is a whole row, then WordNotBelowP unless all are below p.
 pub fn decode(row: &[u64]) -> DecodeAnswer
     ensures { λ r. ⌜ r ≡ decodeAnswer (now (row .entry)) ⌝ }
 {

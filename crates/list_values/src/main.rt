@@ -1,11 +1,16 @@
-// Replays document 01's values to hold that are not proved in `cases`, from lines on standard input, written by hand from its text:
+// Replays document 01's values to hold that are not proved in `terms_cases`, from lines on standard input, written by hand from its text:
 // an operation, the table's rows, `table_len` or a difference, and the answer.
+use air::MainIndex;
 use libc::STDIN_FILENO;
 use libc::STDOUT_FILENO;
 ghost use Prim.Native.Nat.{_≤_};
 
 // A line with its end: an operation of four letters, two numbers of two digits, an answer.
 const LINE: usize = 13;
+
+const MAX_ROWS: u64 = 32;
+
+const WORDS: usize = MAX_ROWS as usize * MainIndex::COUNT;
 
 // No operation answers this.
 const NO_ANSWER: u32 = 10;
@@ -26,25 +31,25 @@ fn two_digits(tens: u8, ones: u8) -> u64
 }
 
 fn pad(rows: u64, table_len: u64) -> u32 {
-    let mut table = [0u64; 1248];
-    if 32 < rows {
+    let mut table = [0u64; WORDS];
+    if MAX_ROWS < rows {
         return NO_ANSWER;
     }
-    let end = rows as usize * 39;
+    let end = rows as usize * MainIndex::COUNT;
     let answer = table_pad::pad(&mut table[..end], table_len as usize);
     refusal::answer_number(answer)
 }
 
 // A trace of zeros that fills the table, and one difference.
 fn fill(rows: u64, difference: u64) -> u32 {
-    let trace = [0u64; 1248];
-    let mut table = [0u64; 1248];
+    let trace = [0u64; WORDS];
+    let mut table = [0u64; WORDS];
     let differences = [difference];
     let none = [0u64; 0];
-    if 32 < rows {
+    if MAX_ROWS < rows {
         return NO_ANSWER;
     }
-    let end = rows as usize * 39;
+    let end = rows as usize * MainIndex::COUNT;
     let answer = table_fill::fill(&trace[..end], &differences, &none, &none, &mut table[..end]);
     refusal::answer_number(answer)
 }

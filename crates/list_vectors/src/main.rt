@@ -1,6 +1,7 @@
 // Replays the original's answers: batches on standard input, each with the number and the last row's cells that the original gives.
 // `vectors`, a program of bindings/oracle, writes the file `stdin` by the original's own files: the number, the batch's length in
-// two bytes, the batch, and 33 words, little-endian, zeros where the original panics.
+// two bytes, the batch, and `AUX_WORDS` words, little-endian, zeros where the original panics.
+use air::AUX_WORDS;
 use libc::STDIN_FILENO;
 use libc::STDOUT_FILENO;
 ghost use Prim.Native.Nat.{_≤_};
@@ -34,9 +35,9 @@ fn same_word(word: u64, bytes: &[u8], at: usize) -> bool {
     true
 }
 
-fn same_cells(cells: [u64; 33], bytes: &[u8]) -> bool {
+fn same_cells(cells: [u64; AUX_WORDS], bytes: &[u8]) -> bool {
     let mut k: usize = 0;
-    while k < 33 {
+    while k < AUX_WORDS {
         if !same_word(cells[k], bytes, k * 8) {
             return false;
         }
@@ -46,7 +47,7 @@ fn same_cells(cells: [u64; 33], bytes: &[u8]) -> bool {
 }
 
 fn agrees(number: u8, batch: &[u8], expected: &[u8]) -> bool {
-    let mut cells = [0u64; 33];
+    let mut cells = [0u64; AUX_WORDS];
     let answer = terminals_batch::last_cells(batch, &mut cells);
     if refusal::answer_number(answer) != number as u32 {
         return false;
@@ -60,7 +61,7 @@ fn read_and_compare(number: u8, n: usize, batch: &mut [u8]) -> bool {
         return false;
     }
     io::read_full(STDIN_FILENO, &mut batch[..n]);
-    let mut expected = [0u8; 264];
+    let mut expected = [0u8; AUX_WORDS * 8];
     io::read_full(STDIN_FILENO, &mut expected);
     agrees(number, &batch[..n], &expected)
 }
@@ -73,7 +74,7 @@ fn next_vector() -> u64
     if io::read_full(STDIN_FILENO, &mut head) < 3 {
         return 0;
     }
-    let mut batch = [0u8; 16384];
+    let mut batch = [0u8; batch::MAX_LEN];
     let n = wide(head[1]) + wide(head[2]) * 256;
     if read_and_compare(head[0], n, &mut batch) {
         1

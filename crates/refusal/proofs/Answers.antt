@@ -1,13 +1,10 @@
--- From tests to an answer, and back.
+-- Tests as the code makes them.
 use mathlib.Core.Path.{_≡_, refl, sym}
-use mathlib.Core.Bool.{Bool, true, false, cond, not, _||_}
+use mathlib.Core.Bool.{Bool, true, false, not, _||_}
 use Prim.Native.Nat.{ℕ}
 use lib.Dec.{leb, ltb}
 use borrow.Author.Tests.{leb-true, leb-false, lt-ltb, le-ltb}
 use Rattle.refusal.specs.Long.{isLong}
-use Rattle.refusal.specs.declared.Refusal.{Refusal}
-use Rattle.refusal.specs.declared.Answer.{Answer}
-use Rattle.refusal.specs.declared.Answer.the-variants.{Done, Refused}
 
 long-by : (n : ℕ) (fits : Bool) → leb n 4194304 ≡ fits → not fits ≡ ltb 4194304 n
 long-by n true e = sym (le-ltb 4194304 n (leb-true n 4194304 e))
@@ -20,8 +17,3 @@ is-long n = long-by n (leb n 4194304) refl
 pub or-false : (a b : Bool) → (a || b) ≡ false → (a ≡ false) × (b ≡ false)
 or-false true b e = (e, cc)
 or-false false b e = (refl, e)
-
--- what is done was not refused
-pub past : (test : Bool) (r : Refusal) (rest : Answer) → cond test (Refused r) rest ≡ Done → (test ≡ false) × (rest ≡ Done)
-past true r rest e = (cc, cc)
-past false r rest e = (refl, e)

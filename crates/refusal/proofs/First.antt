@@ -1,12 +1,15 @@
--- Laws of an operation's line: when it is done, when it refuses with r, and that its number stands in the line. By cases on each test.
-use mathlib.Core.Path.{_≡_, refl, sym}
+-- Laws of an operation's line: when it is done, when it refuses with r, that its number stands in the line, and what a test put in changes. By cases on each test.
+use mathlib.Core.Path.{_≡_, refl, sym, ap, _∙_}
 use mathlib.Core.Logic.{_≢_, _↔_, _⊎_, inl, inr, ⊎-elim}
-use mathlib.Core.Bool.{Bool, true, false, cond}
-use mathlib.Core.List.{List, [], _∷_, map, List·Memᴰ, List·Memᴰ·head, List·Memᴰ·tail}
+use mathlib.Core.Bool.{Bool, true, false, cond, not, _&&_, _||_}
+use mathlib.Core.List.{List, [], _∷_, _++_, List·Memᴰ, List·Memᴰ·head, List·Memᴰ·tail}
 use Prim.Native.Nat.{ℕ}
 use native.Mathlib.Omega.{arith}
+use lib.Dec.{T, T-not, eqb, eqb-refl}
+use borrow.Author.Tests.{eqb-true}
+use mir.Facts.{and-yes}
 use Rattle.refusal.specs.Number.{numberOf, answerNumberOf}
-use Rattle.refusal.specs.Tests.{Test, Tests, firstOr, first, NoneHolds, HoldsFirst}
+use Rattle.refusal.specs.Tests.{Test, Tests, _when_, firstOr, first, NoneHolds, HoldsFirst}
 use Rattle.refusal.specs.declared.Refusal.{Refusal}
 use Rattle.refusal.specs.declared.Answer.{Answer}
 use Rattle.refusal.specs.declared.Answer.the-variants.{Done, Refused}
@@ -15,6 +18,27 @@ use Rattle.refusal.specs.declared.Answer.the-variants.{Done, Refused}
 abbrev pub Listed : List ℕ → Tests → Type 0
 Listed line [] = Unit {0}
 Listed line (test ∷ tests) = List·Memᴰ (numberOf (test .refusal)) line × Listed line tests
+
+-- the same, as a test
+abbrev pub stands : List ℕ → ℕ → Bool
+stands [] n = false
+stands (m ∷ line) n = eqb n m || stands line n
+
+abbrev pub allStand : List ℕ → Tests → Bool
+allStand line [] = true
+allStand line (test ∷ tests) = stands line (numberOf (test .refusal)) && allStand line tests
+
+here-or : {n : ℕ} (m : ℕ) {line : List ℕ} (same : Bool) → eqb n m ≡ same → T (same || stands line n) → (T (stands line n) → List·Memᴰ n line) → List·Memᴰ n (m ∷ line)
+here-or {n} m true e t later = List·Memᴰ·head (eqb-true n m e)
+here-or m false e t later = List·Memᴰ·tail (later t)
+
+pub found : {n : ℕ} (line : List ℕ) → T (stands line n) → List·Memᴰ n line
+found [] t = absurd t
+found {n} (m ∷ line) t = here-or m (eqb n m) refl t (found line)
+
+pub listed : (line : List ℕ) (tests : Tests) → T (allStand line tests) → Listed line tests
+listed line [] t = tt
+listed line (test ∷ tests) t = let both = and-yes (stands line (numberOf (test .refusal))) (allStand line tests) t in (found line (both .0), listed line tests (both .1))
 
 chosen : {A : Type 0} {line : List ℕ} (number : A → ℕ) (test : Bool) (a b : A) → List·Memᴰ (number a) line → List·Memᴰ (number b) line
     → List·Memᴰ (number (cond test a b)) line
@@ -75,3 +99,71 @@ done-exactly tests = (λ e. past-all Refused tests Done Done done-alone e .0, no
 -- refused with r exactly if a test of r holds and none before it
 pub refused-exactly : (tests : Tests) (r : Refusal) → (first tests ≡ Refused r) ↔ HoldsFirst r tests
 refused-exactly tests r = (holds-first Refused (λ s t e. cc) tests Done r (λ e. done-alone r (sym e)), refused-first Refused tests Done r)
+
+-- tests put behind others change no refusal of theirs
+holds-before : (before after : Tests) (r : Refusal) → HoldsFirst r before → HoldsFirst r (before ++ after)
+holds-before [] after r h = absurd h
+holds-before (test ∷ before) after r (inl h) = inl h
+holds-before (test ∷ before) after r (inr h) = inr (h .0, holds-before before after r (h .1))
+
+pub refused-before : (before after : Tests) (r : Refusal) → first before ≡ Refused r → first (before ++ after) ≡ Refused r
+refused-before before after r e = refused-exactly (before ++ after) r .1 (holds-before before after r (refused-exactly before r .0 e))
+
+-- whether no test has this refusal
+abbrev another : Refusal → Test → Bool
+another r test = not (eqb (numberOf (test .refusal)) (numberOf r))
+
+abbrev pub lacks : Refusal → Tests → Bool
+lacks r [] = true
+lacks r (test ∷ tests) = another r test && lacks r tests
+
+not-another : (r : Refusal) (test : Test) (tests : Tests) → T (lacks r (test ∷ tests)) → test .refusal ≢ r
+not-another r test tests l e = T-not (eqb (numberOf (test .refusal)) (numberOf r)) (and-yes (another r test) (lacks r tests) l .0) (rw e (eqb-refl (numberOf r)))
+
+never : (tests : Tests) (r : Refusal) → T (lacks r tests) → HoldsFirst r tests → ⊥
+never [] r l h = h
+never (test ∷ tests) r l (inl h) = not-another r test tests l (h .1)
+never (test ∷ tests) r l (inr h) = never tests r (and-yes (another r test) (lacks r tests) l .1) (h .1)
+
+module _ (r : Refusal) (condition : Bool) (after : Tests) where
+  to-inserted : (before : Tests) → T (lacks r before) → T (lacks r after) → HoldsFirst r (before ++ (r when condition) ∷ after) → NoneHolds before × (condition ≡ true)
+  to-inserted [] l m (inl h) = (tt, h .0)
+  to-inserted [] l m (inr h) = absurd (never after r m (h .1))
+  to-inserted (test ∷ before) l m (inl h) = absurd (not-another r test before l (h .1))
+  to-inserted (test ∷ before) l m (inr h) =
+      let n = to-inserted before (and-yes (another r test) (lacks r before) l .1) m (h .1) in
+      ((h .0, n .0), n .1)
+
+  from-inserted : (before : Tests) → NoneHolds before → condition ≡ true → HoldsFirst r (before ++ (r when condition) ∷ after)
+  from-inserted [] none e = inl (e, refl)
+  from-inserted (test ∷ before) none e = inr (none .0, from-inserted before (none .1) e)
+
+  -- a refusal of its own, put in: answered exactly if its condition holds and no test before it
+  pub inserted-exactly : (before : Tests) → T (lacks r before) → T (lacks r after) → (first (before ++ (r when condition) ∷ after) ≡ Refused r) ↔ (NoneHolds before × (condition ≡ true))
+  inserted-exactly before l m =
+      let law = refused-exactly (before ++ (r when condition) ∷ after) r in
+      (λ e. to-inserted before l m (law .0 e), λ h. law .1 (from-inserted before (h .0) (h .1)))
+
+  -- elsewhere the answer is as without it
+  pub inserted-elsewhere : (before : Tests) → first (before ++ (r when condition) ∷ after) ≢ Refused r → first (before ++ (r when condition) ∷ after) ≡ first (before ++ after)
+  inserted-elsewhere [] ne = here condition ne
+    where
+      here : (b : Bool) → cond b (Refused r) (first after) ≢ Refused r → cond b (Refused r) (first after) ≡ first after
+      here true ne = absurd (ne refl)
+      here false ne = refl
+  inserted-elsewhere (test ∷ before) ne = later (test .holds) (first (before ++ (r when condition) ∷ after)) ne (inserted-elsewhere before)
+    where
+      later : (b : Bool) (x : Answer) → cond b (Refused (test .refusal)) x ≢ Refused r → (x ≢ Refused r → x ≡ first (before ++ after))
+          → cond b (Refused (test .refusal)) x ≡ cond b (Refused (test .refusal)) (first (before ++ after))
+      later true x ne same = refl
+      later false x ne same = same ne
+
+-- an answer seen through a function
+pub seen-through : {A B : Type 0} (f : A → B) (refused : Refusal → A) (tests : Tests) (done : A) → f (firstOr refused tests done) ≡ firstOr (λ r. f (refused r)) tests (f done)
+seen-through f refused [] done = refl
+seen-through {A} {B} f refused (test ∷ tests) done =
+    under (test .holds) (firstOr refused tests done) ∙ ap (cond (test .holds) (f (refused (test .refusal)))) (seen-through f refused tests done)
+  where
+    under : (b : Bool) (x : A) → f (cond b (refused (test .refusal)) x) ≡ cond b (f (refused (test .refusal))) (f x)
+    under true x = refl
+    under false x = refl

@@ -1,3 +1,3 @@
--- From tests to answers.
+-- From tests to answers, and back.
 pub mod Answers
 pub mod First

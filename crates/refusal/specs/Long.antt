@@ -3,5 +3,8 @@ use mathlib.Core.Bool.{Bool, not}
 use Prim.Native.Nat.{ℕ}
 use lib.Dec.{leb}
 
+abbrev pub MAX-LEN : ℕ
+MAX-LEN = 4194304
+
 abbrev pub isLong : ℕ → Bool
-isLong n = not (leb n 4194304)
+isLong n = not (leb n MAX-LEN)

@@ -1,20 +1,18 @@
--- Fill's answer, test by test, and what it says when nothing is refused.
+-- What fill's answer says when nothing is refused.
 use mathlib.Core.Path.{_≡_}
-use mathlib.Core.Bool.{Bool, true, cond, not, _&&_, _||_}
+use mathlib.Core.Bool.{true, not, _&&_, _||_}
 use mathlib.Core.List.{List}
 use Prim.Native.Nat.{ℕ, _%_, _≤_}
 use lib.Dec.{ltb}
 use lib.ListN.{length}
 use borrow.Author.Tests.{ltb-false, leb-true, eqb-true, not-false}
-use Rattle.field_base.specs.Words.{allBelow}
 use Rattle.field_base.proofs.Below.{and-true}
 use Rattle.refusal.specs.Long.{isLong}
-use Rattle.refusal.specs.declared.Answer.{Answer}
-use Rattle.refusal.specs.declared.Answer.the-variants.{Done, Refused}
-use Rattle.refusal.specs.declared.Refusal.the-variants.{SliceLength, RowCount, WordNotBelowP, DifferenceTooLarge}
+use Rattle.refusal.specs.declared.Answer.the-variants.{Done}
 use Rattle.table_rows.specs.Rows.{wholeRows, rows}
-use Rattle.table_fill.specs.Fill.{allUnder, fillAnswer}
-use Rattle.refusal.proofs.Answers.{or-false, past}
+use Rattle.table_fill.specs.Fill.{allUnder, fillTests, fillAnswer}
+use Rattle.refusal.proofs.Answers.{or-false}
+use Rattle.refusal.proofs.First.{done-exactly}
 
 -- what is needed to write
 pub record Accepted (trace op-stack ram jump-stack table : List ℕ) : Type 0 where
@@ -27,47 +25,20 @@ pub record Accepted (trace op-stack ram jump-stack table : List ℕ) : Type 0 wh
   pub ram-under : allUnder (rows trace) ram ≡ true
   pub jump-stack-under : allUnder (rows trace) jump-stack ≡ true
 
-abbrev pub wrongLengths : List ℕ → List ℕ → List ℕ → List ℕ → List ℕ → Bool
-wrongLengths trace op-stack ram jump-stack table =
-    not (wholeRows trace && wholeRows table) || isLong (length op-stack) || isLong (length ram) || isLong (length jump-stack)
-
-abbrev pub wrongRows : List ℕ → List ℕ → Bool
-wrongRows trace table = isLong (rows table) || ltb (rows table) (rows trace)
-
-abbrev pub belowP : List ℕ → List ℕ → List ℕ → List ℕ → Bool
-belowP trace op-stack ram jump-stack = allBelow trace && allBelow op-stack && allBelow ram && allBelow jump-stack
-
-abbrev pub underRows : ℕ → List ℕ → List ℕ → List ℕ → Bool
-underRows n op-stack ram jump-stack = allUnder n op-stack && allUnder n ram && allUnder n jump-stack
-
--- the answer past each test
-abbrev pub byDifferences : ℕ → List ℕ → List ℕ → List ℕ → Answer
-byDifferences n op-stack ram jump-stack = cond (not (underRows n op-stack ram jump-stack)) (Refused DifferenceTooLarge) Done
-
-abbrev pub byWords : List ℕ → List ℕ → List ℕ → List ℕ → Answer
-byWords trace op-stack ram jump-stack =
-    cond (not (belowP trace op-stack ram jump-stack)) (Refused WordNotBelowP) (byDifferences (rows trace) op-stack ram jump-stack)
-
-abbrev pub byRows : List ℕ → List ℕ → List ℕ → List ℕ → List ℕ → Answer
-byRows trace op-stack ram jump-stack table = cond (wrongRows trace table) (Refused RowCount) (byWords trace op-stack ram jump-stack)
-
 module _ (trace op-stack ram jump-stack table : List ℕ) where
   pub accepted : fillAnswer trace op-stack ram jump-stack table ≡ Done → Accepted trace op-stack ram jump-stack table
   unfolding fillAnswer
   accepted e =
-      let a = past (wrongLengths trace op-stack ram jump-stack table) SliceLength (byRows trace op-stack ram jump-stack table) e in
-      let b = past (wrongRows trace table) RowCount (byWords trace op-stack ram jump-stack) (a .1) in
-      let c = past (not (belowP trace op-stack ram jump-stack)) WordNotBelowP (byDifferences (rows trace) op-stack ram jump-stack) (b .1) in
-      let d = past (not (underRows (rows trace) op-stack ram jump-stack)) DifferenceTooLarge Done (c .1) in
-      let a₁ = or-false (not (wholeRows trace && wholeRows table) || isLong (length op-stack) || isLong (length ram)) (isLong (length jump-stack)) (a .0) in
+      let none = done-exactly (fillTests trace op-stack ram jump-stack table) .0 e in
+      let a₁ = or-false (not (wholeRows trace && wholeRows table) || isLong (length op-stack) || isLong (length ram)) (isLong (length jump-stack)) (none .0) in
       let a₂ = or-false (not (wholeRows trace && wholeRows table) || isLong (length op-stack)) (isLong (length ram)) (a₁ .0) in
       let a₃ = or-false (not (wholeRows trace && wholeRows table)) (isLong (length op-stack)) (a₂ .0) in
       let a₄ = and-true (wholeRows trace) (wholeRows table) (not-false _ (a₃ .0)) in
-      let d₁ = and-true (allUnder (rows trace) op-stack && allUnder (rows trace) ram) (allUnder (rows trace) jump-stack) (not-false _ (d .0)) in
+      let d₁ = and-true (allUnder (rows trace) op-stack && allUnder (rows trace) ram) (allUnder (rows trace) jump-stack) (not-false _ (none .1 .1 .1 .0)) in
       let d₂ = and-true (allUnder (rows trace) op-stack) (allUnder (rows trace) ram) (d₁ .0) in
       record {
         whole = eqb-true (length trace % 39) 0 (a₄ .0);
-        fits = ltb-false (rows table) (rows trace) (or-false (isLong (rows table)) (ltb (rows table) (rows trace)) (b .0) .1);
+        fits = ltb-false (rows table) (rows trace) (or-false (isLong (rows table)) (ltb (rows table) (rows trace)) (none .1 .0) .1);
         op-stack-short = leb-true (length op-stack) 4194304 (not-false _ (a₃ .1));
         ram-short = leb-true (length ram) 4194304 (not-false _ (a₂ .1));
         jump-stack-short = leb-true (length jump-stack) 4194304 (not-false _ (a₁ .1));

@@ -5,10 +5,8 @@ use Prim.Native.Nat.{ℕ, _+_}
 use lib.Dec.{eqb, ltb}
 use lib.ListN.{length, drop, set}
 use Rattle.field_base.specs.Words.{allBelow}
-use Rattle.refusal.specs.Number.{onDone}
-use Rattle.refusal.specs.Long.{isLong}
+use Rattle.refusal.specs.Tests.{onDone, isLong, Tests, _when_, _unless_, first}
 use Rattle.refusal.specs.declared.Answer.{Answer}
-use Rattle.refusal.specs.declared.Answer.the-variants.{Done, Refused}
 use Rattle.refusal.specs.declared.Refusal.the-variants.{SliceLength, RowCount, WordNotBelowP, DifferenceTooLarge}
 use Rattle.air.specs.MainColumn.{CLOCK-JUMP-DIFFERENCE-LOOKUP-MULTIPLICITY}
 use Rattle.table_rows.specs.Rows.{wholeRows, rows, rowAt, rowsFrom}
@@ -29,14 +27,17 @@ allUnder n (d ∷ ds) = ltb d n && allUnder n ds
 
 -- "1 if trace or table is not whole rows or a list is long; 3 if the table is long in rows or shorter than the trace; 2 in trace or lists;
 -- 4 if a difference is not below the trace rows."
+abbrev pub fillTests : List ℕ → List ℕ → List ℕ → List ℕ → List ℕ → Tests
+fillTests trace op-stack ram jump-stack table =
+    (SliceLength when not (wholeRows trace && wholeRows table) || isLong (length op-stack) || isLong (length ram) || isLong (length jump-stack))
+    ∷ (RowCount when isLong (rows table) || ltb (rows table) (rows trace))
+    ∷ (WordNotBelowP unless allBelow trace && allBelow op-stack && allBelow ram && allBelow jump-stack)
+    ∷ (DifferenceTooLarge unless allUnder (rows trace) op-stack && allUnder (rows trace) ram && allUnder (rows trace) jump-stack)
+    ∷ []
+
 unfoldable pub fillAnswer : List ℕ → List ℕ → List ℕ → List ℕ → List ℕ → Answer
 unfolding allUnder
-fillAnswer trace op-stack ram jump-stack table =
-    cond (not (wholeRows trace && wholeRows table) || isLong (length op-stack) || isLong (length ram) || isLong (length jump-stack)) (Refused SliceLength)
-    (cond (isLong (rows table) || ltb (rows table) (rows trace)) (Refused RowCount)
-    (cond (not (allBelow trace && allBelow op-stack && allBelow ram && allBelow jump-stack)) (Refused WordNotBelowP)
-    (cond (not (allUnder (rows trace) op-stack && allUnder (rows trace) ram && allUnder (rows trace) jump-stack)) (Refused DifferenceTooLarge)
-    Done)))
+fillAnswer trace op-stack ram jump-stack table = first (fillTests trace op-stack ram jump-stack table)
 
 -- row c of the trace with multiplicity m
 abbrev pub filledRow : List ℕ → (ℕ → ℕ) → ℕ → List ℕ

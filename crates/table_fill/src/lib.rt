@@ -9,6 +9,7 @@ ghost use mathlib.Core.Path.{_≡_};
 ghost use mathlib.Core.Bool.{true};
 ghost use Prim.Native.Nat.{_%_, _≤_};
 ghost use lib.ListN.{length};
+ghost use Rattle.air.specs.MainColumn.{MAIN-WIDTH};
 ghost use Rattle.table_rows.specs.Rows.{rows};
 ghost use Rattle.table_fill.specs.Fill.{fillAnswer, fillTable, filled, allUnder};
 ghost use Rattle.table_fill.specs.Counted.{counted};
@@ -91,7 +92,7 @@ fn all_under(differences: &[u64], rows: usize) -> bool
 
 // Each row of the trace, with multiplicity 0.
 fn copy_rows(trace: &[u64], table: &mut [u64])
-    requires { ⌜ (length (now trace) % 39 ≡ 0) × (length (now trace) ≤ length (now table)) ⌝ }
+    requires { ⌜ (length (now trace) % MAIN-WIDTH ≡ 0) × (length (now trace) ≤ length (now table)) ⌝ }
     ensures { λ r. ⌜ now (table .exit) ≡ filled (now (trace .entry)) (λ c. 0) (now (table .entry)) ⌝ }
 {
     let rows = trace.len() / MainIndex::COUNT;

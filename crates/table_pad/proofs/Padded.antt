@@ -1,6 +1,6 @@
 -- What pad's answer says of the table, and the padded table as the trace's rows with padding below them.
 use mathlib.Core.Path.{_≡_, sym, ap, _∙_}
-use mathlib.Core.Bool.{not, _||_}
+use mathlib.Core.Bool.{_||_}
 use mathlib.Core.List.{List, [], _∷_, _++_, append-nil, append-assoc}
 use Prim.Native.Nat.{ℕ, suc, _+_, _-_, _*_, _%_, _≤_, _<_}
 use native.Mathlib.Nat.{zero-add}
@@ -11,12 +11,12 @@ use lib.Seq.{set-set, set-at, take-suc, drop-cons, getD-take, getD-drop, length-
 use borrow.Author.Tests.{ltb-false, leb-true, eqb-true, eqb-false, not-false, lt-ltb, le-ltb}
 use Rattle.refusal.specs.Long.{isLong}
 use Rattle.refusal.specs.declared.Answer.the-variants.{Done}
-use Rattle.refusal.specs.declared.Refusal.the-variants.{RowCount, SliceLength}
 use Rattle.air.specs.MainColumn.{CLK}
-use Rattle.table_rows.specs.Rows.{wholeRows, rows, rowAt, rowsFrom}
+use Rattle.table_rows.specs.Rows.{rows, rowAt, rowsFrom}
 use Rattle.table_rows.specs.Writes.{withRow, withRows}
-use Rattle.table_pad.specs.Pad.{padAnswer, paddingRow, paddedRow}
-use Rattle.refusal.proofs.Answers.{or-false, past}
+use Rattle.table_pad.specs.Pad.{padTests, padAnswer, paddingRow, paddedRow}
+use Rattle.refusal.proofs.Answers.{or-false}
+use Rattle.refusal.proofs.First.{done-exactly}
 use Rattle.table_rows.proofs.Rows.{split-rows, same-rows, rows-of, replace-next, row-of-put}
 
 -- a table whose shape is not refused
@@ -33,14 +33,13 @@ module _ (table : List ℕ) (len : ℕ) where
   shaped e =
       let empty = eqb len 0 in
       let n = rows table in
-      let a = past (not (wholeRows table)) SliceLength _ e in
-      let b = past (ltb n 2 || isLong n || empty || ltb n len) RowCount _ (a .1) in
-      let c = or-false (ltb n 2 || isLong n || empty) (ltb n len) (b .0) in
+      let none = done-exactly (padTests table len) .0 e in
+      let c = or-false (ltb n 2 || isLong n || empty) (ltb n len) (none .1 .0) in
       let d = or-false (ltb n 2 || isLong n) empty (c .0) in
       let f = or-false (ltb n 2) (isLong n) (d .0) in
       let positive = eqb-false len 0 (d .1) in
       record {
-        whole = eqb-true (length table % 39) 0 (not-false _ (a .0));
+        whole = eqb-true (length table % 39) 0 (not-false _ (none .0));
         two = ltb-false n 2 (f .0);
         short = leb-true n 4194304 (not-false _ (f .1));
         some = omega arith;

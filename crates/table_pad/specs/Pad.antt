@@ -1,26 +1,27 @@
 -- Pad: the last row of the trace copied downward, and row 1's multiplicity grown by the number of padding rows.
-use mathlib.Core.Bool.{cond, not, _||_}
-use mathlib.Core.List.{List}
+use mathlib.Core.Bool.{cond, _||_}
+use mathlib.Core.List.{List, [], _∷_}
 use Prim.Native.Nat.{ℕ, _-_, _*_}
 use lib.Dec.{eqb, ltb}
 use lib.ListN.{take, set}
 use Rattle.field_base.specs.Words.{allBelow}
-use Rattle.refusal.specs.Number.{onDone}
-use Rattle.refusal.specs.Long.{isLong}
+use Rattle.refusal.specs.Tests.{onDone, isLong, Tests, _when_, _unless_, first}
 use Rattle.refusal.specs.declared.Answer.{Answer}
-use Rattle.refusal.specs.declared.Answer.the-variants.{Done, Refused}
 use Rattle.refusal.specs.declared.Refusal.the-variants.{SliceLength, RowCount, WordNotBelowP}
 use Rattle.air.specs.MainColumn.{CLK, IS-PADDING, CLOCK-JUMP-DIFFERENCE-LOOKUP-MULTIPLICITY, MAIN-WIDTH}
 use Rattle.table_rows.specs.Rows.{wholeRows, rows, rowAt, rowsFrom}
 use Rattle.table_rows.specs.Writes.{raised}
 
 -- "1 unless the table is whole rows; 3 if rows are under 2 or long, or table_len is 0 or above rows; 2 in the first table_len rows."
+abbrev pub padTests : List ℕ → ℕ → Tests
+padTests table len =
+    (SliceLength unless wholeRows table)
+    ∷ (RowCount when ltb (rows table) 2 || isLong (rows table) || eqb len 0 || ltb (rows table) len)
+    ∷ (WordNotBelowP unless allBelow (take (len * MAIN-WIDTH) table))
+    ∷ []
+
 unfoldable pub padAnswer : List ℕ → ℕ → Answer
-padAnswer table len =
-    cond (not (wholeRows table)) (Refused SliceLength)
-    (cond (ltb (rows table) 2 || isLong (rows table) || eqb len 0 || ltb (rows table) len) (Refused RowCount)
-    (cond (not (allBelow (take (len * MAIN-WIDTH) table))) (Refused WordNotBelowP)
-    Done))
+padAnswer table len = first (padTests table len)
 
 -- a row like `last` with IsPadding 1, multiplicity 0 and CLK c
 abbrev pub paddingRow : List ℕ → ℕ → List ℕ

@@ -9,6 +9,7 @@ use table_rows::unchecked::row;
 ghost use mathlib.Core.Path.{_≡_};
 ghost use Prim.Native.Nat.{_+_, _-_, _*_, _≤_, _<_};
 ghost use lib.ListN.{length, set};
+ghost use Rattle.air.specs.MainColumn.{MAIN-WIDTH};
 ghost use Rattle.table_rows.specs.Rows.{rows, rowAt};
 ghost use Rattle.table_rows.specs.Writes.{withRow, withRows};
 ghost use Rattle.table_pad.specs.Height.{height};
@@ -68,7 +69,7 @@ pub fn padding_row(last: [u64; MainIndex::COUNT], c: usize) -> [u64; MainIndex::
 // Rows from table_len on become padding like the row above them.
 fn copy_down(table: &mut [u64], table_len: usize)
     requires { ⌜ (0 < «table_len») × («table_len» ≤ rows (now table)) ⌝ }
-    ensures { λ r. ⌜ now (table .exit) ≡ withRows 39 (now (table .entry)) (paddingRow (rowAt (now (table .entry)) («table_len» - 1))) «table_len» (rows (now (table .entry)) - «table_len») ⌝ }
+    ensures { λ r. ⌜ now (table .exit) ≡ withRows MAIN-WIDTH (now (table .entry)) (paddingRow (rowAt (now (table .entry)) («table_len» - 1))) «table_len» (rows (now (table .entry)) - «table_len») ⌝ }
 {
     let rows = table.len() / MainIndex::COUNT;
     if table_len < rows {
@@ -84,8 +85,8 @@ fn copy_down(table: &mut [u64], table_len: usize)
 
 // Row c like the row above it, at the clock c: the clock is its first word.
 fn repeat_row(table: &mut [u64], c: usize)
-    requires { ⌜ (0 < c) × ((c + 1) * 39 ≤ length (now table)) ⌝ }
-    ensures { λ r. ⌜ now (table .exit) ≡ withRow 39 (now (table .entry)) c (set (rowAt (now (table .entry)) (c - 1)) 0 c) ⌝ }
+    requires { ⌜ (0 < c) × ((c + 1) * MAIN-WIDTH ≤ length (now table)) ⌝ }
+    ensures { λ r. ⌜ now (table .exit) ≡ withRow MAIN-WIDTH (now (table .entry)) c (set (rowAt (now (table .entry)) (c - 1)) 0 c) ⌝ }
 {
     let at = c * MainIndex::COUNT;
     let to = at + 1;

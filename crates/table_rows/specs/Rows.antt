@@ -16,9 +16,9 @@ abbrev pub rowAt : List ℕ → ℕ → List ℕ
 rowAt table c = take MAIN-WIDTH (drop (c * MAIN-WIDTH) table)
 
 -- the row before row r, where `before` stands before row 0
-abbrev pub behind : (before table : List ℕ) → ℕ → List ℕ
-behind before table zero = before
-behind before table (suc r) = rowAt table r
+abbrev pub rowBefore : (before : List ℕ) → (ℕ → List ℕ) → ℕ → List ℕ
+rowBefore before row zero = before
+rowBefore before row (suc r) = row r
 
 -- n rows from row c on, row by row
 unfoldable pub rowsFrom : (ℕ → List ℕ) → ℕ → ℕ → List ℕ

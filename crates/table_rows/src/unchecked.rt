@@ -5,11 +5,13 @@ ghost use mathlib.Core.List.{[], _∷_};
 ghost use Prim.Native.Nat.{_+_, _*_, _≤_, _<_};
 ghost use lib.ListN.{length, drop};
 ghost use lib.Seq.{paste};
-ghost use Rattle.table_rows.specs.Rows.{rows, rowAt, behind, startedChunks};
+ghost use Rattle.refusal.specs.Long.{MAX-LEN};
+ghost use Rattle.air.specs.MainColumn.{MAIN-WIDTH};
+ghost use Rattle.table_rows.specs.Rows.{rows, rowAt, rowBefore, startedChunks};
 ghost use Rattle.table_rows.specs.Writes.{withRow, raised};
 
 pub fn row(table: &[u64], c: usize) -> [u64; MainIndex::COUNT]
-    requires { ⌜ (c + 1) * 39 ≤ length (now table) ⌝ }
+    requires { ⌜ (c + 1) * MAIN-WIDTH ≤ length (now table) ⌝ }
     ensures { λ r. ⌜ r ≡ rowAt (now (table .entry)) c ⌝ }
 {
     let at = c * MainIndex::COUNT;
@@ -24,7 +26,7 @@ pub fn row(table: &[u64], c: usize) -> [u64; MainIndex::COUNT]
 
 // A row where it stands.
 pub fn row_at(table: &[u64], c: usize) -> &[u64]
-    requires { ⌜ (c + 1) * 39 ≤ length (now table) ⌝ }
+    requires { ⌜ (c + 1) * MAIN-WIDTH ≤ length (now table) ⌝ }
     ensures { λ r. ⌜ now r ≡ rowAt (now (table .entry)) c ⌝ }
 {
     let start = c * MainIndex::COUNT;
@@ -34,8 +36,8 @@ pub fn row_at(table: &[u64], c: usize) -> &[u64]
 
 // The row before row c, where `before` stands before row 0.
 pub fn row_before<'a>(before: &'a [u64], table: &'a [u64], c: usize) -> &'a [u64]
-    requires { ⌜ c * 39 ≤ length (now table) ⌝ }
-    ensures { λ r. ⌜ now r ≡ behind (now (before .entry)) (now (table .entry)) c ⌝ }
+    requires { ⌜ c * MAIN-WIDTH ≤ length (now table) ⌝ }
+    ensures { λ r. ⌜ now r ≡ rowBefore (now (before .entry)) (rowAt (now (table .entry))) c ⌝ }
 {
     if c == 0 {
         return before;
@@ -44,15 +46,15 @@ pub fn row_before<'a>(before: &'a [u64], table: &'a [u64], c: usize) -> &'a [u64
 }
 
 pub fn window(prev: &[u64], curr: &[u64]) -> [[u64; MainIndex::COUNT]; 2]
-    requires { ⌜ (length (now prev) ≡ 39) × (length (now curr) ≡ 39) ⌝ }
+    requires { ⌜ (length (now prev) ≡ MAIN-WIDTH) × (length (now curr) ≡ MAIN-WIDTH) ⌝ }
     ensures { λ r. ⌜ r ≡ now (prev .entry) ∷ now (curr .entry) ∷ [] ⌝ }
 {
     [row(prev, 0), row(curr, 0)]
 }
 
 pub fn put_row(table: &mut [u64], c: usize, row: [u64; MainIndex::COUNT])
-    requires { ⌜ (c + 1) * 39 ≤ length (now table) ⌝ }
-    ensures { λ r. ⌜ now (table .exit) ≡ withRow 39 (now (table .entry)) c row ⌝ }
+    requires { ⌜ (c + 1) * MAIN-WIDTH ≤ length (now table) ⌝ }
+    ensures { λ r. ⌜ now (table .exit) ≡ withRow MAIN-WIDTH (now (table .entry)) c row ⌝ }
 {
     let at = c * MainIndex::COUNT;
     let mut i: usize = 0;
@@ -64,8 +66,8 @@ pub fn put_row(table: &mut [u64], c: usize, row: [u64; MainIndex::COUNT])
 
 // Row c of one table into another, a third at a time: 13 words are copied in place, and more by a call.
 pub fn copy_row(from: &[u64], to: &mut [u64], c: usize)
-    requires { ⌜ ((c + 1) * 39 ≤ length (now from)) × ((c + 1) * 39 ≤ length (now to)) ⌝ }
-    ensures { λ r. ⌜ now (to .exit) ≡ withRow 39 (now (to .entry)) c (rowAt (now (from .entry)) c) ⌝ }
+    requires { ⌜ ((c + 1) * MAIN-WIDTH ≤ length (now from)) × ((c + 1) * MAIN-WIDTH ≤ length (now to)) ⌝ }
+    ensures { λ r. ⌜ now (to .exit) ≡ withRow MAIN-WIDTH (now (to .entry)) c (rowAt (now (from .entry)) c) ⌝ }
 {
     let at = c * MainIndex::COUNT;
     copy_third(from, to, at);
@@ -93,7 +95,7 @@ fn copy_third(from: &[u64], to: &mut [u64], at: usize)
 
 // Row c's multiplicity grows, modulo p.
 pub fn raise_multiplicity(table: &mut [u64], c: usize, by: u64)
-    requires { ⌜ (c < rows (now table)) × (by ≤ 4194304) ⌝ }
+    requires { ⌜ (c < rows (now table)) × (by ≤ MAX-LEN) ⌝ }
     ensures { λ r. ⌜ now (table .exit) ≡ raised (now (table .entry)) c by ⌝ }
 {
     let at = c * MainIndex::COUNT + MainIndex::CLOCK_JUMP_DIFFERENCE_LOOKUP_MULTIPLICITY.0;

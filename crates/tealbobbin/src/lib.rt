@@ -178,7 +178,8 @@ pub extern "C" fn tealbobbin_element_inverse(a: &[u64], out: &mut [u64]) -> u32
     put_element(field::element_inverse(x), out)
 }
 
-// Into `out` goes 1 and the opcode, or 0 and 0 where the row decodes to nothing.
+// Into `out` go two words: 1 and the opcode; 0 and 0 where no instruction has the opcode; 2 or 3 and the opcode where the argument is
+// not in 0 to 15 or not in 1 to 5.
 #[no_mangle]
 pub extern "C" fn tealbobbin_decode(row: &[u64], out: &mut [u64]) -> u32
     ensures number { λ r. ⌜ r ≡ decodeNumberInto (now (out .entry)) (decodeAnswer (now (row .entry))) ⌝ }
@@ -187,7 +188,7 @@ pub extern "C" fn tealbobbin_decode(row: &[u64], out: &mut [u64]) -> u32
     put_decoded(isa_decoding::decode(row), out)
 }
 
-// Writes the record of 189 words: the sampled challenges and the four that are derived from them.
+// Writes the record, `air::RECORD_WORDS` words: the sampled challenges and the four that are derived from them.
 #[no_mangle]
 pub extern "C" fn tealbobbin_challenges(
     sampled: &[u64],
@@ -410,7 +411,7 @@ pub extern "C" fn tealbobbin_write(
     ))
 }
 
-// The cells of the last row of the table that the batch leads to, 33 words: what the program `terminals` prints.
+// The cells of the last row of the table that the batch leads to, `air::AUX_WORDS` words: what the program `terminals` prints.
 #[no_mangle]
 pub extern "C" fn tealbobbin_terminals(batch: &[u8], cells: &mut [u64]) -> u32
     ensures number { λ r. ⌜ r ≡ answerNumberOf (terminalsInto (now (batch .entry)) (now (cells .entry))) ⌝ }

@@ -6,6 +6,7 @@ use native.Mathlib.Omega.{arith}
 use lib.ListN.{length, take}
 use Rattle.refusal.specs.declared.Answer.{Answer}
 use Rattle.refusal.specs.declared.Answer.the-variants.{Done, Refused}
+use Rattle.air.specs.ChallengeId.{RECORD-WORDS}
 use Rattle.table_rows.specs.Rows.{rows}
 use Rattle.table_fill.specs.Fill.{fillAnswer, fillTable}
 use Rattle.table_pad.specs.Pad.{padAnswer, padTable}
@@ -45,13 +46,13 @@ unfolding openedAnswer openedCells
 opened-long counts trace op-stack ram jump-stack sampled digest input output e =
     let read = take (counts .input) input in
     let wrote = take (counts .output) output in
-    let derived = challengesRecord sampled digest read wrote (zeros 189) in
+    let derived = challengesRecord sampled digest read wrote (zeros RECORD-WORDS) in
     let rows-sent = take (counts .rows * 39) trace in
     let o = take (counts .«op_stack») op-stack in
     let r = take (counts .ram) ram in
     let j = take (counts .«jump_stack») jump-stack in
     table-long rows-sent o r j derived (counts .«log2_height»)
-    (then-done (challengesAnswer sampled digest read wrote (zeros 189)) (tableAnswer (counts .«log2_height») rows-sent o r j derived) e)
+    (then-done (challengesAnswer sampled digest read wrote (zeros RECORD-WORDS)) (tableAnswer (counts .«log2_height») rows-sent o r j derived) e)
 
 long-after : (a : OpenAnswer) (batch : List ℕ) → answerAfter a batch ≡ Done → length (cellsAfter a batch) ≡ 33
 long-after (NotOpened refusal) batch e = let z : _≡_ {A = ℕ} 0 1 = cc in absurd (omega arith)

@@ -1,10 +1,13 @@
 // An operation at a time, where the caller knows the counts to lie within the slices; the first refusal is the answer.
+use air::AUX_WORDS;
 use air::MainIndex;
+use air::RECORD_WORDS;
 use batch_reader::Counts;
 use challenges::Challenges;
 use refusal::Answer;
 use table_pad::unchecked::padded_height;
 use table_rows::unchecked::raise_multiplicity;
+use terminals_extended::unchecked::MAX_KEPT;
 use terminals_walk::unchecked::rows_below;
 use terminals_walk::unchecked::walked_cells;
 ghost use mathlib.Core.Path.{_≡_};
@@ -12,8 +15,11 @@ ghost use mathlib.Core.Bool.{true};
 ghost use Prim.Native.Nat.{_≤_};
 ghost use lib.ListN.{length};
 ghost use Rattle.refusal.specs.Number.{onDone};
+ghost use Rattle.refusal.specs.Long.{MAX-LEN};
 ghost use Rattle.table_rows.specs.Rows.{wholeRows, rows};
+ghost use Rattle.batch_commands.specs.Format.{MAX-ROWS, MAX-LOG-2-HEIGHT};
 ghost use Rattle.batch.specs.Lent.{Within};
+ghost use Rattle.batch.specs.Open.{TRACE-WORDS};
 ghost use Rattle.terminals_cells.specs.Terminals.{paddedAnswer, paddedCells, filledAnswer, filledCells, tableAnswer, tableCells, openedAnswer, openedCells};
 ghost use Rattle.terminals_cells.specs.Kept.{Kept, longer};
 
@@ -23,7 +29,7 @@ fn padded_cells(
     table_len: usize,
     height: usize,
     challenges: &[u64],
-    cells: &mut [u64; 33],
+    cells: &mut [u64; AUX_WORDS],
 ) -> Answer
     requires { ⌜ wholeRows (now table) ≡ true ⌝ }
     requires { ⌜ Kept «table_len» (rows (now table)) height ⌝ }
@@ -50,7 +56,7 @@ fn filled_cells(
     challenges: &[u64],
     table: &mut [u64],
     height: usize,
-    cells: &mut [u64; 33],
+    cells: &mut [u64; AUX_WORDS],
 ) -> Answer
     requires { ⌜ wholeRows (now table) ≡ true ⌝ }
     requires { ⌜ Kept (rows (now trace)) (rows (now table)) height ⌝ }
@@ -72,7 +78,7 @@ fn filled_cells(
 
 // The trace's rows and one window of padding, unless the table has no more.
 fn kept_rows(rows: usize, height: usize) -> usize
-    requires { ⌜ (rows ≤ 32) × (2 ≤ height) × (height ≤ 4194304) ⌝ }
+    requires { ⌜ (rows ≤ MAX-ROWS) × (2 ≤ height) × (height ≤ MAX-LEN) ⌝ }
     ensures { λ r. ⌜ Kept rows r height ⌝ }
 {
     if rows + 2 < height { rows + 2 } else { height }
@@ -85,14 +91,13 @@ fn table_cells(
     ram: &[u64],
     jump_stack: &[u64],
     challenges: &[u64],
-    cells: &mut [u64; 33],
+    cells: &mut [u64; AUX_WORDS],
 ) -> Answer
-    requires { ⌜ («log2_height» ≤ 22) × (rows (now trace) ≤ 32) ⌝ }
+    requires { ⌜ («log2_height» ≤ MAX-LOG-2-HEIGHT) × (rows (now trace) ≤ MAX-ROWS) ⌝ }
     ensures answer { λ r. ⌜ r ≡ tableAnswer «log2_height» (now (trace .entry)) (now («op_stack» .entry)) (now (ram .entry)) (now («jump_stack» .entry)) (now (challenges .entry)) ⌝ }
     ensures cells { λ r. ⌜ now (cells .exit) ≡ onDone r (tableCells «log2_height» (now (trace .entry)) (now («op_stack» .entry)) (now (ram .entry)) (now («jump_stack» .entry)) (now (challenges .entry))) (now (cells .entry)) ⌝ }
 {
-    // 34 rows: the longest trace, and a window of padding.
-    let mut table = [0u64; 1326];
+    let mut table = [0u64; MAX_KEPT * MainIndex::COUNT];
     let rows = trace.len() / MainIndex::COUNT;
     let height = padded_height(log2_height, rows);
     let end = kept_rows(rows, height) * MainIndex::COUNT;
@@ -118,16 +123,16 @@ pub fn opened_cells(
     digest: &[u64],
     input: &[u64],
     output: &[u64],
-    cells: &mut [u64; 33],
+    cells: &mut [u64; AUX_WORDS],
 ) -> Answer
     requires { ⌜ Within counts (length (now trace)) (length (now «op_stack»)) (length (now ram)) (length (now «jump_stack»)) (length (now input)) (length (now output)) ⌝ }
-    requires { ⌜ length (now trace) ≤ 1248 ⌝ }
+    requires { ⌜ length (now trace) ≤ TRACE-WORDS ⌝ }
     ensures answer { λ r. ⌜ r ≡ openedAnswer counts (now (trace .entry)) (now («op_stack» .entry)) (now (ram .entry)) (now («jump_stack» .entry)) (now (sampled .entry)) (now (digest .entry)) (now (input .entry)) (now (output .entry)) ⌝ }
     ensures cells { λ r. ⌜ now (cells .exit) ≡ onDone r (openedCells counts (now (trace .entry)) (now («op_stack» .entry)) (now (ram .entry)) (now («jump_stack» .entry)) (now (sampled .entry)) (now (digest .entry)) (now (input .entry)) (now (output .entry))) (now (cells .entry)) ⌝ }
 {
     let input_end = counts.input;
     let output_end = counts.output;
-    let mut lent = [0u64; 189];
+    let mut lent = [0u64; RECORD_WORDS];
     let answer = Challenges::new(
         sampled,
         digest,

@@ -15,7 +15,7 @@ use Rattle.table_rows.specs.Rows.{wholeRows, rows, rowAt, rowsFrom}
 use Rattle.table_rows.proofs.Rows.{split-rows, same-rows, rows-of, length-row, length-rows}
 use Rattle.table_pad.specs.Pad.{paddingRow, paddedRow}
 use Rattle.column_entries.specs.Denominators.{zeroUpTo, zeroDenominator}
-use Rattle.column_steps.specs.Walk.{before, MainRows}
+use Rattle.column_steps.specs.Walk.{MainRows}
 use Rattle.extend_fractions.specs.declared.Fractions.{Fractions}
 use Rattle.extend_fractions.specs.Fractions.{fractionsOf}
 use Rattle.extend_denominators.proofs.Rows.{fractionsAt, zero-goes-on}

@@ -13,6 +13,7 @@ use Rattle.refusal.specs.declared.Answer.{Answer}
 use Rattle.refusal.specs.declared.Answer.the-variants.{Done, Refused}
 use Rattle.refusal.specs.declared.Refusal.the-variants.{SliceLength, WordNotBelowP, ZeroDenominator}
 use Rattle.field_base.specs.Words.{allBelow}
+use Rattle.air.specs.ChallengeId.{RECORD-WORDS}
 use Rattle.table_rows.specs.Rows.{wholeRows, rows, rowsFrom, startedChunks}
 use Rattle.table_rows.proofs.Rows.{one-more-row, length-rows}
 use Rattle.column_entries.specs.Columns.{running, cell}
@@ -38,7 +39,7 @@ byTests record-whole below zero =
     cond (not record-whole) (Refused SliceLength) (cond (not below) (Refused WordNotBelowP) (cond zero (Refused ZeroDenominator) Done))
 
 module _ (main challenges : List ℕ) (table : Table main) where
-  pub answer : rows main ≤ 4194304 → extendedAnswer main challenges ≡ byTests (eqb (length challenges) 189) (allBelow main && allBelow challenges) (zeroDenominator main challenges)
+  pub answer : rows main ≤ 4194304 → extendedAnswer main challenges ≡ byTests (eqb (length challenges) RECORD-WORDS) (allBelow main && allBelow challenges) (zeroDenominator main challenges)
   unfolding extendedAnswer extendAnswer
   answer short =
       rw (

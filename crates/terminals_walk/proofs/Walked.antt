@@ -11,13 +11,15 @@ use Rattle.refusal.specs.declared.Answer.the-variants.{Done}
 use Rattle.field_base.specs.Words.{allBelow}
 use Rattle.field_base.proofs.Below.{below-take, below-drop}
 use Rattle.field.specs.Element.{Canonical, elementAt}
-use Rattle.table_rows.specs.Rows.{rows, rowsFrom}
+use Rattle.air.specs.ChallengeId.{RECORD-WORDS}
+use Rattle.table_rows.specs.Rows.{rows, rowBefore, rowsFrom}
 use Rattle.table_pad.specs.Pad.{paddingRow}
 use Rattle.column_entries.specs.Columns.{Column, running}
 use Rattle.column_entries.specs.AuxRow.{placeOf, auxRow}
 use Rattle.column_entries.proofs.AuxRow.{length-row, value-at}
 use Rattle.column_weights.specs.Ready.{ReadyTable}
-use Rattle.column_steps.specs.Walk.{before, through}
+use Rattle.column_steps.specs.Step.{zeroRow}
+use Rattle.column_steps.specs.Walk.{through}
 use Rattle.column_steps.proofs.Steps.{running-canonical}
 use Rattle.column_steps.proofs.Walk.{running-through, through-same}
 use Rattle.extend_fractions.specs.Fractions.{fractionsOf, Divisible}
@@ -32,7 +34,7 @@ use Rattle.terminals_walk.specs.Grown.{grown, EndsInPadding, Growing}
 use Rattle.terminals_walk.proofs.Grown.{row, last, length-last, main-rows, begins, grown-whole, grown-height, grown-below, from-last, at-last, zero-grown}
 use Rattle.terminals_walk.proofs.LastRow.{Table, byTests, answer, cells}
 
-before-row : (f : ℕ → List ℕ) (k : ℕ) → 0 < k → before f k ≡ f (k - 1)
+before-row : (f : ℕ → List ℕ) (k : ℕ) → 0 < k → rowBefore zeroRow f k ≡ f (k - 1)
 before-row f zero h = absurd (omega arith)
 before-row f (suc k) h = let e : k ≡ suc k - 1 = omega arith in ap f e
 
@@ -56,7 +58,7 @@ module _ (main : List ℕ) (height : ℕ) (growing : Growing main height) (chall
     pub same-answer : extendedAnswer (grown height main) challenges ≡ extendedAnswer main challenges
     same-answer =
         answer (grown height main) challenges all (omega (arith, grown-height main height growing, growing .short))
-        ∙ (λ i. byTests (eqb (length challenges) 189) (grown-below main height growing i && allBelow challenges) (zero-grown main height growing challenges ends i))
+        ∙ (λ i. byTests (eqb (length challenges) RECORD-WORDS) (grown-below main height growing i && allBelow challenges) (zero-grown main height growing challenges ends i))
         ∙ sym (answer main challenges own (omega (arith, growing .within, growing .short)))
 
     module _ (done : extendedAnswer main challenges ≡ Done) where

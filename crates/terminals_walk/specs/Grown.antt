@@ -4,6 +4,7 @@ use mathlib.Core.Bool.{true}
 use mathlib.Core.List.{List}
 use Prim.Native.Nat.{ℕ, _-_, _≤_, _<_}
 use lib.ListN.{set}
+use Rattle.refusal.specs.Long.{MAX-LEN}
 use Rattle.air.specs.MainColumn.{CLOCK-JUMP-DIFFERENCE-LOOKUP-MULTIPLICITY}
 use Rattle.table_rows.specs.Rows.{wholeRows, rows, rowAt, rowsFrom}
 use Rattle.table_pad.specs.Pad.{paddingRow, paddedRow}
@@ -25,5 +26,5 @@ pub record Growing (main : List ℕ) (height : ℕ) : Type 0 where
   pub whole : wholeRows main ≡ true
   pub some : 1 ≤ rows main
   pub within : rows main ≤ height
-  pub short : height ≤ 4194304
+  pub short : height ≤ MAX-LEN
   pub window : rows main < height → EndsInPadding main

@@ -1,15 +1,14 @@
 -- A call's contract is an equation with the definitions that the terms speak of.
 use mathlib.Core.Path.{sym, ap, _∙_}
 use mathlib.Core.List.{List}
-use Prim.Native.Nat.{ℕ, _+_, _-_, _*_}
+use Prim.Native.Nat.{ℕ, _-_}
 use denote.Ref.{now}
-use Rattle.field.specs.Element.{elementAt}
 use Rattle.field.specs.declared.XFieldElement.{XFieldElement}
 use Rattle.table_rows.specs.Rows.{rows}
 use Rattle.column_entries.specs.Columns.{Column}
 use Rattle.extend_answer.specs.Answer.{extendAnswer}
 use Rattle.extend.specs.Extend.{extendAux}
-use Rattle.column_entries.specs.AuxRow.{placeOf}
+use Rattle.column_entries.specs.AuxRow.{cellAt}
 use Rattle.terms.specs.Term3.{Ends}
 use Rattle.terms.specs.Calls.{Call, Term2OfCalls, Term3OfCalls}
 use Rattle.terms.proofs.Lists.{All-imply}
@@ -30,7 +29,7 @@ module _ {c : Column} {sampled : ℕ → XFieldElement} {x : XFieldElement} {mai
         work = work;
         given = call .given;
         accepted = ap (λ m. extendAnswer m challenges chunk aux work) (sym (call .main-lent)) ∙ sym (call .contract .0) ∙ call .accepted;
-        last = ap (λ l. elementAt l ((rows main - 1) * 33 + placeOf c * 3)) (ap (λ m. extendAux m challenges chunk aux work) (sym (call .main-lent)) ∙ sym (call .contract .1 .0)) ∙ call .last;
+        last = ap (λ l. cellAt c l (rows main - 1)) (ap (λ m. extendAux m challenges chunk aux work) (sym (call .main-lent)) ∙ sym (call .contract .1 .0)) ∙ call .last;
       }
 
 pub term3-of-calls : Term3OfCalls
@@ -46,4 +45,4 @@ term2-of-calls lifetimes arguments answer left contract accepted c r within =
     let chunk = arguments .1 .1 .0 in
     let aux = now (arguments .1 .1 .1 .0) in
     let work = now (arguments .1 .1 .1 .1 .0) in
-    ap (λ l. elementAt l (r * 33 + placeOf c * 3)) (contract .1 .0) ∙ term2 .cells main challenges chunk aux work (sym (contract .0) ∙ accepted) c r within
+    ap (λ l. cellAt c l r) (contract .1 .0) ∙ term2 .cells main challenges chunk aux work (sym (contract .0) ∙ accepted) c r within

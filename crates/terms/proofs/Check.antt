@@ -1,6 +1,6 @@
 -- The check says yes exactly to extension's columns, and refuses what extension refuses.
 use mathlib.Core.Path.{_≡_, refl, sym, ap, _∙_}
-use mathlib.Core.Bool.{Bool, true, false, cond, not, _&&_, and-true, false≢true}
+use mathlib.Core.Bool.{true, _&&_, and-true}
 use mathlib.Core.List.{List, [], _∷_}
 use Prim.Native.Nat.{ℕ, zero, suc, _+_, _-_, _*_, _/_, _%_, _<_}
 use native.Mathlib.Nat.{add-zero}
@@ -8,30 +8,31 @@ use native.Mathlib.Omega.{arith}
 use lib.Dec.{eqb}
 use lib.ListN.{length, getD}
 use lib.Seq.{ext-getD}
-use borrow.Author.Tests.{eq-eqb, ne-eqb, le-leb}
+use borrow.Author.Tests.{eq-eqb, ne-eqb}
+use Rattle.refusal.specs.Tests.{_unless_}
 use Rattle.refusal.specs.declared.Refusal.{Refusal}
-use Rattle.refusal.specs.declared.Refusal.the-variants.{SliceLength, RowCount, WordNotBelowP, ZeroDenominator}
+use Rattle.refusal.specs.declared.Refusal.the-variants.{SliceLength}
 use Rattle.refusal.specs.declared.Answer.{Answer}
 use Rattle.refusal.specs.declared.Answer.the-variants as answer
+use Rattle.refusal.proofs.First.{seen-through}
 use Rattle.field_base.specs.Words.{allBelow}
 use Rattle.field_base.proofs.Below.{below-append}
 use Rattle.field.specs.Element.{Canonical, elementAt, wordsOf}
 use Rattle.field.specs.declared.XFieldElement.{XFieldElement}
 use Rattle.field.proofs.Below.{canonical-below}
+use Rattle.air.specs.ChallengeId.{RECORD-WORDS}
 use Rattle.table_rows.specs.Rows.{wholeRows, rows, rowsFrom}
 use Rattle.table_rows.proofs.Rows.{length-rows}
 use Rattle.column_entries.specs.Columns.{Column, columns, running, cell}
-use Rattle.column_entries.specs.AuxRow.{placeOf, placed, auxRow}
-use Rattle.column_entries.specs.Denominators.{zeroDenominator}
+use Rattle.column_entries.specs.AuxRow.{placeOf, cellAt, placed, auxRow}
 use Rattle.column_entries.proofs.AuxRow.{gathered, length-row}
 use Rattle.column_steps.proofs.Steps.{running-canonical}
 use Rattle.extend_table.specs.Extended.{cellsOfRow, extended}
-use Rattle.extend_answer.specs.Answer.{extendAnswer}
+use Rattle.extend_answer.specs.Answer.{rowsTest, wordsTest, denominatorTest, extendAnswer}
 use Rattle.extend_answer.proofs.Accepted as extension
-use Rattle.extend_answer.proofs.Accepted.{wrongRows}
 use Rattle.extend.specs.Extend.{extendAux}
 use Rattle.extend.proofs.Written.{written}
-use Rattle.check_relations.specs.Offered.{cellAt, cellBefore}
+use Rattle.check_relations.specs.Offered.{cellBefore}
 use Rattle.check_relations.specs.First.{verdict}
 use Rattle.check_relations.specs.declared.Verdict.{Verdict}
 use Rattle.check_relations.specs.declared.Verdict.the-variants.{Yes}
@@ -40,7 +41,7 @@ use Rattle.check_relations.proofs.Place.{column-at, all-hold, first-place}
 use Rattle.check_columns.specs.Check.{checkAnswer}
 use Rattle.check_columns.specs.declared.CheckAnswer.{CheckAnswer}
 use Rattle.check_columns.specs.declared.CheckAnswer.the-variants.{Checked, Refused}
-use Rattle.check_columns.proofs.Stages.{refuses, Passed, passed, verdict-is, to-verdict}
+use Rattle.check_columns.proofs.Stages.{Passed, passed, verdict-is}
 use Rattle.terms.specs.Check.{Lent, Check}
 use Rattle.terms.proofs.Cells.{cell-at}
 
@@ -87,85 +88,24 @@ module _ (main challenges : List ℕ) where
         let e : i ≡ i / 33 * 33 + i % 33 / 3 * 3 + i % 33 % 3 = omega arith in
         rw e (at (i / 33) (i % 33 / 3) (i % 33 % 3) (omega (arith, long, l)) (omega arith) (omega arith)))
 
--- Yes is just extension's columns.
-module _ (main challenges offered : List ℕ) (chunk : ℕ) (aux work : List ℕ) (lent : Lent main chunk aux work) where
-  -- extension passes its tests where the check does
-  extension-done : Passed main challenges offered → extendAnswer main challenges chunk aux work ≡ answer.Done
-  unfolding extendAnswer
-  extension-done p =
-      let l = p .fitting in
-      rw (
-        l .whole,
-        eq-eqb (length aux) (rows main * 33) (lent .aux-length),
-        eq-eqb (length challenges) 189 (l .challenges-length),
-        p .row-count,
-        ne-eqb chunk 0 (λ e. omega (arith, lent .chunk-length)),
-        eq-eqb (length work) _ (lent .work-length),
-        p .main-below,
-        p .challenges-below,
-        p .no-zero,
-      )
-
-  -- and the check its own, over what extension writes
-  check-passes : extendAnswer main challenges chunk aux work ≡ answer.Done → offered ≡ extended main challenges → Passed main challenges offered
-  check-passes done e =
-      let a = extension.passed main challenges chunk aux work done in
-      let long = ap length e ∙ extended-long main challenges in
-      record {
-        fitting = record { whole = a .fitting .whole; aux-length = long; challenges-length = a .fitting .challenges-length };
-        row-count = rw (a .some-row, le-leb (rows main) 4194304 (a .not-long));
-        main-below = a .main-below;
-        challenges-below = a .challenges-below;
-        offered-below = ap allBelow e ∙ extended-below main challenges;
-        no-zero = a .no-zero;
-      }
-
-  says-yes : checkAnswer main challenges offered ≡ Checked Yes → (extendAnswer main challenges chunk aux work ≡ answer.Done) × (extendAux main challenges chunk aux work ≡ offered)
-  says-yes h =
-      let p = passed main challenges offered h in
-      let done = extension-done p in
-      let held = all-hold challenges main offered .0 (verdict-is main challenges offered h) in
-      (done, written main challenges chunk aux work done ∙ sym (all-words main challenges offered (p .fitting .aux-length) (all-cells challenges main offered (p .no-zero) (p .offered-below) held)))
-
-  yes-to : (extendAnswer main challenges chunk aux work ≡ answer.Done) × (extendAux main challenges chunk aux work ≡ offered) → checkAnswer main challenges offered ≡ Checked Yes
-  yes-to h =
-      let e = sym (h .1) ∙ written main challenges chunk aux work (h .0) in
-      let p = check-passes (h .0) e in
-      let own : (r : ℕ) (c : Column) → r < rows main → cellAt c offered r ≡ cell c challenges main r = λ r c l. ap (λ t. cellAt c t r) e ∙ cell-at main challenges c r l in
-      to-verdict main challenges offered p
-      ∙ ap Checked (all-hold challenges main offered .1 (λ r c l. holds-exactly challenges main offered (p .no-zero) r l (p .offered-below) c (before own c r l) .1 (own r c l)))
-    where
-      before : ((r : ℕ) (c : Column) → r < rows main → cellAt c offered r ≡ cell c challenges main r) → (c : Column) (r : ℕ) → r < rows main → cellBefore c offered r ≡ running c challenges main r
-      before own c zero l = start-running challenges main offered c
-      before own c (suc r) l = own r c (omega arith)
-
--- Refusals: extension's answer, with the verdict in the place of Done.
+-- Extension's answer, with the verdict in the place of Done.
 abbrev asChecked : Answer → Verdict → CheckAnswer
 asChecked answer.Done v = Checked v
 asChecked (answer.Refused r) v = Refused r
 
-by-tests : (lengths row-count words none : Bool) (v : Verdict)
-    → cond lengths (Refused SliceLength) (cond row-count (Refused RowCount) (cond words (Refused WordNotBelowP) (cond none (Refused ZeroDenominator) (Checked v))))
-    ≡ asChecked
-    (cond lengths (answer.Refused SliceLength) (cond row-count (answer.Refused RowCount) (cond words (answer.Refused WordNotBelowP) (cond none (answer.Refused ZeroDenominator) answer.Done)))) v
-by-tests true row-count words none v = refl
-by-tests false true words none v = refl
-by-tests false false true none v = refl
-by-tests false false false true v = refl
-by-tests false false false false v = refl
-
-abbrev refusalIn : CheckAnswer → Refusal
-refusalIn (Checked v) = SliceLength
-refusalIn (Refused r) = r
-
 refused-both : (a : Answer) (v : Verdict) (r : Refusal) → asChecked a v ≡ Refused r → a ≡ answer.Refused r
-refused-both answer.Done v r e = absurd (false≢true (ap refuses e))
-refused-both (answer.Refused s) v r e = ap answer.Refused (ap refusalIn e)
+refused-both answer.Done v r e = let z : _≡_ {A = ℕ} 0 1 = cc in absurd (omega arith)
+refused-both (answer.Refused s) v r e = cc
 
-module _ (main challenges offered : List ℕ) (chunk : ℕ) (aux work : List ℕ) (lent : Lent main chunk aux work) (long : length offered ≡ rows main * 33) (below : allBelow offered ≡ true) where
-  same-answer : checkAnswer main challenges offered ≡ asChecked (extendAnswer main challenges chunk aux work) (verdict challenges main offered)
+done-both : (a : Answer) (v w : Verdict) → asChecked a v ≡ Checked w → a ≡ answer.Done
+done-both answer.Done v w e = refl
+done-both (answer.Refused s) v w e = let z : _≡_ {A = ℕ} 0 1 = cc in absurd (omega arith)
+
+module _ (main challenges offered : List ℕ) (chunk : ℕ) (aux work : List ℕ) (lent : Lent main chunk aux work) where
+  same-answer : length offered ≡ rows main * 33 → allBelow offered ≡ true
+      → checkAnswer main challenges offered ≡ asChecked (extendAnswer main challenges chunk aux work) (verdict challenges main offered)
   unfolding checkAnswer extendAnswer
-  same-answer =
+  same-answer long below =
       rw (
         eq-eqb (length offered) (rows main * 33) long,
         below,
@@ -175,7 +115,32 @@ module _ (main challenges offered : List ℕ) (chunk : ℕ) (aux work : List ℕ
         ne-eqb chunk 0 (λ e. omega (arith, lent .chunk-length)),
         eq-eqb (length work) _ (lent .work-length),
       )
-      (by-tests (not (wholeRows main && eqb (length challenges) 189)) (wrongRows main) (not (allBelow main && allBelow challenges)) (zeroDenominator main challenges) (verdict challenges main offered))
+      (sym
+      (seen-through (λ a. asChecked a (verdict challenges main offered)) answer.Refused
+      ((SliceLength unless wholeRows main && eqb (length challenges) RECORD-WORDS) ∷ rowsTest main ∷ wordsTest (main ∷ challenges ∷ []) ∷ denominatorTest main challenges ∷ [])
+      answer.Done))
+
+  -- yes is just extension's columns
+  says-yes : checkAnswer main challenges offered ≡ Checked Yes → (extendAnswer main challenges chunk aux work ≡ answer.Done) × (extendAux main challenges chunk aux work ≡ offered)
+  says-yes h =
+      let p = passed main challenges offered h in
+      let done = done-both (extendAnswer main challenges chunk aux work) (verdict challenges main offered) Yes (sym (same-answer (p .offered-length) (p .offered-below)) ∙ h) in
+      let held = all-hold challenges main offered .0 (verdict-is main challenges offered h) in
+      (done, written main challenges chunk aux work done ∙ sym (all-words main challenges offered (p .offered-length) (all-cells challenges main offered (p .no-zero) (p .offered-below) held)))
+
+  yes-to : (extendAnswer main challenges chunk aux work ≡ answer.Done) × (extendAux main challenges chunk aux work ≡ offered) → checkAnswer main challenges offered ≡ Checked Yes
+  yes-to h =
+      let e = sym (h .1) ∙ written main challenges chunk aux work (h .0) in
+      let below = ap allBelow e ∙ extended-below main challenges in
+      let no-zero = extension.passed main challenges chunk aux work (h .0) .no-zero in
+      let own : (r : ℕ) (c : Column) → r < rows main → cellAt c offered r ≡ cell c challenges main r = λ r c l. ap (λ t. cellAt c t r) e ∙ cell-at main challenges c r l in
+      same-answer (ap length e ∙ extended-long main challenges) below
+      ∙ ap (λ a. asChecked a (verdict challenges main offered)) (h .0)
+      ∙ ap Checked (all-hold challenges main offered .1 (λ r c l. holds-exactly challenges main offered no-zero r l below c (before own c r l) .1 (own r c l)))
+    where
+      before : ((r : ℕ) (c : Column) → r < rows main → cellAt c offered r ≡ cell c challenges main r) → (c : Column) (r : ℕ) → r < rows main → cellBefore c offered r ≡ running c challenges main r
+      before own c zero l = start-running challenges main offered c
+      before own c (suc r) l = own r c (omega arith)
 
 pub check : Check
 check =

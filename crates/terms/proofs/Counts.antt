@@ -1,57 +1,42 @@
 -- How often elements stand in a list, and their numerators, in the field that `into` takes them to.
 use mathlib.Core.Path.{_≡_, refl, ap, ap₂, sym, _∙_, subst}
 use mathlib.Core.Logic.{_≢_}
-use mathlib.Core.Bool.{Bool, true, false, cond, _&&_}
+use mathlib.Core.Bool.{Bool, true, false, cond}
 use mathlib.Core.List.{List, [], _∷_, map}
 use Prim.Native.Nat.{ℕ, _+_, _%_}
 use native.Mathlib.Nat.{zero-add, mod-lt}
 use native.Mathlib.Decide.{ℕ-discrete}
-use lib.Dec.{T, eqb, eqb→eq, eqb-refl}
 use Rattle.algebra.specs.Modulus.{p}
 use Rattle.algebra.specs.Ring.{CommRing}
 use Rattle.algebra.specs.Element as plain
 use Rattle.algebra.specs.Polynomial.{All}
-use Rattle.algebra.proofs.Cubic.{triple-path}
 use Rattle.algebra.proofs.Base.{p-positive, el-mod}
 use Rattle.algebra.proofs.Elements.{ElementRing as R, scalar, into-lift, lift-below}
 use Rattle.algebra.proofs.ElementField.{element-field as K}
-use Rattle.field.specs.Element.{element, Canonical, lift, sum}
+use Rattle.field.specs.Element.{Canonical, same, lift, sum}
 use Rattle.field.specs.declared.XFieldElement.{XFieldElement}
 use Rattle.field.proofs.Laws.{into, into-injective, into-zero, into-sum}
+use Rattle.field.proofs.Division.{is-same, to-same}
 use Rattle.cross_table_argument.specs.CrossTable.{Fraction}
-use Rattle.terms.specs.Counting.{same, count, SameBag, numerators, NumeratorsDiffer}
-use Rattle.terms.proofs.Tests.{and-both, both-and, choose, choose-cond}
+use Rattle.terms.specs.Counting.{count, SameBag, numerators, NumeratorsDiffer}
+use Rattle.terms.proofs.Tests.{choose, choose-cond}
 use Rattle.terms.proofs.Products as ring-product
 use Rattle.terms.proofs.Fractions as ring-sum
 use Rattle.terms.proofs.Arguments.{term}
 open CommRing R using (zero as o, add)
 
-same-eq : (a b : XFieldElement) → T (same a b) → a ≡ b
-unfolding same
-same-eq a b t =
-    let u = and-both (eqb (a .c0) (b .c0)) (eqb (a .c1) (b .c1) && eqb (a .c2) (b .c2)) t in
-    let v = and-both (eqb (a .c1) (b .c1)) (eqb (a .c2) (b .c2)) (u .1) in
-    ap element (triple-path (eqb→eq (a .c0) (b .c0) (u .0)) (eqb→eq (a .c1) (b .c1) (v .0)) (eqb→eq (a .c2) (b .c2) (v .1)))
-
-eq-same : (a b : XFieldElement) → a ≡ b → T (same a b)
-unfolding same
-eq-same a b e =
-    subst (λ c. T (same a c)) e
-    (both-and (eqb (a .c0) (a .c0)) (eqb (a .c1) (a .c1) && eqb (a .c2) (a .c2)) (eqb-refl (a .c0))
-    (both-and (eqb (a .c1) (a .c1)) (eqb (a .c2) (a .c2)) (eqb-refl (a .c1)) (eqb-refl (a .c2))))
-
 choose-same : {A : Type 0} (a b : XFieldElement) → Canonical a → Canonical b → (u v : A)
     → choose (K .discrete (into a) (into b)) u v ≡ cond (same a b) u v
 choose-same a b c d u v =
     choose-cond (K .discrete (into a) (into b)) (same a b) u v
-    (λ q. eq-same a b (into-injective c d q)) (λ t. ap into (same-eq a b t))
+    (λ q. to-same a b (into-injective c d q)) (λ t. ap into (is-same a b t))
 
 -- an element that is counted is one of the entries, so its words are below p
 counted : (f e : XFieldElement) (m n : ℕ) → Canonical f → cond (same f e) m 0 + n ≢ 0 → (n ≢ 0 → Canonical e) → Canonical e
-counted f e m n c = go (same f e) (same-eq f e)
+counted f e m n c = go (same f e) (is-same f e)
   where
-    go : (t : Bool) → (T t → f ≡ e) → cond t m 0 + n ≢ 0 → (n ≢ 0 → Canonical e) → Canonical e
-    go true h ne later = subst Canonical (h tt) c
+    go : (t : Bool) → (t ≡ true → f ≡ e) → cond t m 0 + n ≢ 0 → (n ≢ 0 → Canonical e) → Canonical e
+    go true h ne later = subst Canonical (h refl) c
     go false h ne later = later (λ z. ne (zero-add n ∙ z))
 
 numerators-canonical : (e : XFieldElement) (fs : List Fraction) → All (λ f. Canonical (f .symbol)) fs → numerators e fs ≢ 0 → Canonical e

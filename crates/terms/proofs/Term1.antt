@@ -1,52 +1,44 @@
--- Term 1 holds: an answer is a chain of tests, each with its refusal, and what a slice holds afterwards goes by cases on the answer.
+-- Term 1 holds: an answer is the first of its tests, and what a slice holds afterwards goes by cases on the answer.
 use mathlib.Core.Path.{_≡_, refl}
-use mathlib.Core.Bool.{Bool, true, false, cond, not, _&&_, _||_}
+use mathlib.Core.Bool.{Bool, true, false, cond, not, _||_}
 use mathlib.Core.List.{List, [], _∷_, _++_, List·Memᴰ·head, List·Memᴰ·tail}
 use Prim.Native.Nat.{ℕ, zero, suc, _*_, _-_}
 use lib.Dec.{T, eqb, leb, ltb}
-use lib.ListN.{length, take, drop, getD, replicate}
-use borrow.Author.Tests.{eqb-true}
-use Rattle.algebra.specs.Modulus as base
-use Rattle.algebra.specs.Modulus.{p}
+use lib.ListN.{length, take, drop, replicate}
 use Rattle.refusal.specs.Number.{numberOf, answerNumberOf, onDone}
-use Rattle.refusal.specs.Long.{isLong}
+use Rattle.refusal.specs.Tests.{Tests, _when_, firstOr, first}
+use Rattle.refusal.proofs.First.{stands, allStand, found, listed, number-listed}
 use Rattle.refusal.specs.declared.Refusal.{Refusal}
-use Rattle.refusal.specs.declared.Refusal.the-variants.{SliceLength, WordNotBelowP, RowCount, DifferenceTooLarge, ChunkLengthZero, ZeroDenominator, UnknownCommand, BatchCutOff, CommandOutOfPlace, CommandOutOfOrder, UndecodableRow, HeightOutOfRange}
+use Rattle.refusal.specs.declared.Refusal.the-variants.{SliceLength, WordNotBelowP, RowCount, UnknownCommand, BatchCutOff, CommandOutOfPlace, CommandOutOfOrder, HeightOutOfRange}
 use Rattle.refusal.specs.declared.Answer.{Answer}
 use Rattle.refusal.specs.declared.Answer.the-variants.{Done, Refused}
 use Rattle.field_base.specs.Words.{allBelow}
-use Rattle.field_base.specs.Answers.{baseNumber, baseChecked}
+use Rattle.field_base.specs.Answers.{wordTests, wordsTests, inverseTests, baseNumber}
 use Rattle.field_base.specs.declared.BaseAnswer.{BaseAnswer}
 use Rattle.field_base.specs.declared.BaseAnswer.the-variants as base-answer
-use Rattle.field_montgomery.specs.Form.{toMontgomery, fromMontgomery, montgomeryProduct, montgomeryInverse}
 use Rattle.field.specs.Answers as answers
 use Rattle.field.specs.Answers.{elementAdd, elementSub, elementMul, elementScale, elementInverse}
-use Rattle.field.specs.Element.{elementAt, canonical, isZero, sum, difference, product, scale, inverse}
+use Rattle.field.specs.Element.{elementAt}
 use Rattle.field.specs.declared.XFieldElement.{XFieldElement}
 use Rattle.field.specs.declared.ElementAnswer.{ElementAnswer}
 use Rattle.field.specs.declared.ElementAnswer.the-variants as element-answer
-use Rattle.air.specs.MainColumn.{MAIN-WIDTH, CI, NIA}
-use Rattle.isa_decoding.specs.Decode.{decoded}
-use Rattle.isa_decoding.specs.Answer.{decodeAnswer, answerNumber, answerWords}
+use Rattle.isa_decoding.specs.Answer.{decodeTests, decodeAnswer, answerNumber, answerWords}
 use Rattle.isa_decoding.specs.declared.DecodeAnswer.{DecodeAnswer}
 use Rattle.isa_decoding.specs.declared.DecodeAnswer.the-variants as decode-answer
-use Rattle.challenges.specs.Derived as challenges
-use Rattle.challenges.specs.Derived.{challengesAnswer, challengesRecord, derivedRecord, allWordsBelow}
+use Rattle.challenges.specs.Derived.{challengesTests, challengesAnswer, challengesRecord, derivedRecord}
 use Rattle.scan_steps.specs.Scan.{scannedMaps, scannedProducts, scannedSums}
-use Rattle.running_arguments.specs.Answers.{wholeItems, scanAnswer, scanWords}
-use Rattle.table_rows.specs.Rows.{wholeRows, rows, startedChunks}
-use Rattle.table_fill.specs.Fill.{allUnder, multiplicity, filled, fillAnswer, fillTable}
-use Rattle.table_pad.specs.Pad.{padded, padAnswer, padTable}
-use Rattle.column_entries.specs.Denominators.{zeroDenominator}
+use Rattle.running_arguments.specs.Answers.{scanTests, scanAnswer, scanWords}
+use Rattle.table_rows.specs.Rows.{rows, startedChunks}
+use Rattle.table_fill.specs.Fill.{multiplicity, filled, fillTests, fillAnswer, fillTable}
+use Rattle.table_pad.specs.Pad.{padded, padTests, padAnswer, padTable}
 use Rattle.extend_table.specs.Extended.{extended}
-use Rattle.extend_answer.specs.Answer as extension
-use Rattle.extend_answer.specs.Answer.{extendAnswer}
-use Rattle.extend_answer.proofs.Accepted.{wrongRows, wrongWork, wrongWords}
-use Rattle.extend_answer.specs.Strict.{undecodable, behindEleven, strictAnswer}
+use Rattle.extend_answer.specs.Answer.{lengthsTest, rowsTest, extendTests, extendAnswer}
+use Rattle.extend_answer.specs.Strict.{testsIn, strictAnswer}
 use Rattle.extend.specs.Extend.{extendAux, extendWork, strictAux, strictWork}
 use Rattle.batch_commands.specs.declared.Seen.{Seen}
-use Rattle.batch_commands.specs.Format.{END, COMMANDS, width, wordsIn, MAX-ROWS, Command}
-use Rattle.batch_commands.specs.Fault.{outOfPlace, outOfOrder, wrongRowCount, heightOutOfRange, judged, fault}
+use Rattle.air.specs.ChallengeId.{RECORD-WORDS}
+use Rattle.batch_commands.specs.Format.{END, width, Command}
+use Rattle.batch_commands.specs.Fault.{judged, faultTests, fault}
 use Rattle.batch_reader.specs.Commands.{seenIn}
 use Rattle.batch_reader.specs.Reading.{Reading, read, unless, readFrom, reading}
 use Rattle.batch_reader.specs.Answers.{answerOf}
@@ -62,34 +54,19 @@ use Rattle.terminals_cells.specs.Terminals.{after, paddedAnswer, filledAnswer, 
 use Rattle.terminals_batch.specs.Into.{terminalsInto, cellsInto}
 use Rattle.tealbobbin_answers.specs.Write.{toldForm}
 use Rattle.batch_writer.specs.Layout.{batchOf}
-use Rattle.batch_writer.specs.Write as writer
-use Rattle.batch_writer.specs.Write.{writeAnswer, writeBatch}
+use Rattle.batch_writer.specs.Write.{writeTests, writeAnswer, writeBatch}
 use Rattle.tealbobbin_answers.specs.Field.{isWord, isElement, baseWritten, elementWritten, elementNumberInto, elementInto, unaryNumber, unaryOut}
 use Rattle.tealbobbin_answers.specs.Open.{Slices, openInto, slicesBy}
 use Rattle.tealbobbin_answers.specs.Check.{checkNumber, checkWritten}
 use Rattle.check_relations.specs.First.{verdict}
-use Rattle.check_columns.specs.Check.{checkAnswer}
+use Rattle.check_columns.specs.Check.{checkTests, checkAnswer}
 use Rattle.check_columns.specs.declared.CheckAnswer.{CheckAnswer}
 use Rattle.check_columns.specs.declared.CheckAnswer.the-variants as check-answer
 use Rattle.terms.specs.Term1.{_∈_, Answers, OnWords, OnElement, OnElements, Scans, Checks, Term1}
-use Rattle.terms.proofs.Tests.{every, and-both}
-
--- whether a number stands in a list
-abbrev stands : List ℕ → ℕ → Bool
-stands [] n = false
-stands (m ∷ ms) n = eqb n m || stands ms n
-
-here-or : {n : ℕ} (m : ℕ) {ms : List ℕ} (same : Bool) → eqb n m ≡ same → T (same || stands ms n) → (T (stands ms n) → n ∈ ms) → n ∈ m ∷ ms
-here-or {n} m true e t later = List·Memᴰ·head (eqb-true n m e)
-here-or m false e t later = List·Memᴰ·tail (later t)
-
-found : {n : ℕ} (ms : List ℕ) → T (stands ms n) → n ∈ ms
-found [] t = absurd t
-found {n} (m ∷ ms) t = here-or m (eqb n m) refl t (found ms)
 
 -- a refusal of the line
-listed : {line : List ℕ} (r : Refusal) → T (stands line (numberOf r)) → numberOf r ∈ 0 ∷ line
-listed {line} r t = List·Memᴰ·tail (found line t)
+standing : {line : List ℕ} (r : Refusal) → T (stands line (numberOf r)) → numberOf r ∈ 0 ∷ line
+standing {line} r t = List·Memᴰ·tail (found line t)
 
 zero-listed : {line : List ℕ} → 0 ∈ 0 ∷ line
 zero-listed = List·Memᴰ·head refl
@@ -98,26 +75,10 @@ chosen : {A : Type 0} {ns : List ℕ} (number : A → ℕ) (test : Bool) (a b : 
 chosen number true a b f g = f
 chosen number false a b f g = g
 
-abbrev Tests : Type 0
-Tests = List (Bool × Refusal)
-
--- the refusals of the tests stand in the line
-abbrev Listed : List ℕ → Tests → Type 0
-Listed line ts = T (every (λ t. stands line (numberOf (t .1))) ts)
-
--- tests in their order, each with its refusal, and what is answered past them
-abbrev chain : {A : Type 0} → (Refusal → A) → Tests → A → A
-chain refuse [] last = last
-chain refuse (t ∷ ts) last = cond (t .0) (refuse (t .1)) (chain refuse ts last)
-
+-- an answer by tests whose refusals are of the line
 by-tests : {A : Type 0} {line : List ℕ} (refuse : Refusal → A) (number : A → ℕ) → ((r : Refusal) → number (refuse r) ≡ numberOf r)
-    → (ts : Tests) → Listed line ts → (last : A) → number last ∈ 0 ∷ line → number (chain refuse ts last) ∈ 0 ∷ line
-by-tests refuse number numbered [] l last f = f
-by-tests {line} refuse number numbered (t ∷ ts) l last f =
-    let both = and-both (stands line (numberOf (t .1))) (every (λ u. stands line (numberOf (u .1))) ts) l in
-    chosen number (t .0) (refuse (t .1)) (chain refuse ts last)
-    (rw (numbered (t .1)) (listed (t .1) (both .0)))
-    (by-tests refuse number numbered ts (both .1) last f)
+    → (tests : Tests) → T (allStand (0 ∷ line) tests) → (last : A) → number last ∈ 0 ∷ line → number (firstOr refuse tests last) ∈ 0 ∷ line
+by-tests {line} refuse number numbered tests t last f = number-listed refuse number numbered tests last (listed (0 ∷ line) tests t) f
 
 -- past a success nothing is asked of the slices
 done : {line : List ℕ} {unchanged : Type 0} → Answers line 0 unchanged
@@ -130,10 +91,12 @@ refused f u = record { fixed = f; kept = λ ne. u }
 guarded : {line : List ℕ} (right : Bool) (number : ℕ) (after out : List ℕ) → T (stands line 1) → Answers line number (after ≡ out)
     → Answers line (cond right number 1) (cond right after out ≡ out)
 guarded true number after out t a = a
-guarded false number after out t a = refused (listed SliceLength t) refl
+guarded false number after out t a = refused (standing SliceLength t) refl
 
-on-words : {line : List ℕ} (answer : BaseAnswer) → T (stands line 1) → baseNumber answer ∈ 0 ∷ line → OnWords line answer
-on-words {line} answer t fixed out = guarded (isWord out) (baseNumber answer) (baseWritten out answer) out t (go answer fixed)
+on-words : {line : List ℕ} (tests : Tests) (w : ℕ) → T (stands line 1) → T (allStand (0 ∷ line) tests) → OnWords line (firstOr base-answer.Refused tests (base-answer.Word w))
+on-words {line} tests w t l out =
+    let answer = firstOr base-answer.Refused tests (base-answer.Word w) in
+    guarded (isWord out) (baseNumber answer) (baseWritten out answer) out t (go answer (by-tests base-answer.Refused baseNumber (λ r. refl) tests l (base-answer.Word w) zero-listed))
   where
     go : (a : BaseAnswer) → baseNumber a ∈ 0 ∷ line → Answers line (baseNumber a) (baseWritten out a ≡ out)
     go (base-answer.Word w) f = done
@@ -155,23 +118,9 @@ on-elements f t fixed a b out =
     let g = f (elementAt a 0) in
     guarded (isElement a) (unaryNumber g b out) (unaryOut g b out) out t (on-element g t (fixed (elementAt a 0)) b out)
 
--- a word not below p brings 2
-base-checked : {line : List ℕ} (below : Bool) (answer : BaseAnswer) → T (stands line 2) → baseNumber answer ∈ 0 ∷ line → baseNumber (baseChecked below answer) ∈ 0 ∷ line
-base-checked below answer t f = chosen baseNumber below answer (base-answer.Refused WordNotBelowP) f (listed WordNotBelowP t)
-
-word-checked : (below : Bool) (w : ℕ) → OnWords (1 ∷ 2 ∷ []) (baseChecked below (base-answer.Word w))
-word-checked below w = on-words (baseChecked below (base-answer.Word w)) tt (base-checked below (base-answer.Word w) tt zero-listed)
-
-inverse-checked : (a w : ℕ) → OnWords (1 ∷ 2 ∷ 6 ∷ []) (baseChecked (ltb a p) (cond (eqb a 0) (base-answer.Refused ZeroDenominator) (base-answer.Word w)))
-inverse-checked a w =
-    let answer = cond (eqb a 0) (base-answer.Refused ZeroDenominator) (base-answer.Word w) in
-    on-words (baseChecked (ltb a p) answer) tt
-    (base-checked (ltb a p) answer tt
-    (chosen baseNumber (eqb a 0) (base-answer.Refused ZeroDenominator) (base-answer.Word w) (listed ZeroDenominator tt) zero-listed))
-
-element-checked : {line : List ℕ} (below : Bool) (answer : ElementAnswer) → T (stands line 2) → answers.elementNumber answer ∈ 0 ∷ line
-    → answers.elementNumber (answers.elementChecked below answer) ∈ 0 ∷ line
-element-checked below answer t f = chosen answers.elementNumber below answer (element-answer.Refused WordNotBelowP) f (listed WordNotBelowP t)
+element-listed : {line : List ℕ} (tests : Tests) → T (allStand (0 ∷ line) tests) → (e : XFieldElement)
+    → answers.elementNumber (firstOr element-answer.Refused tests (element-answer.Element e)) ∈ 0 ∷ line
+element-listed tests l e = by-tests element-answer.Refused answers.elementNumber (λ r. refl) tests l (element-answer.Element e) zero-listed
 
 check-kept : {line : List ℕ} (n : ℕ) (a : CheckAnswer) → checkNumber a ∈ 0 ∷ line → (out : List ℕ) → Answers line (checkNumber a) (checkWritten n out a ≡ out)
 check-kept n (check-answer.Checked v) f out = done
@@ -183,10 +132,7 @@ checks n main challenges offered out =
     let answer = checkAnswer main challenges offered in
     guarded (eqb (length out) n) (checkNumber answer) (checkWritten n out answer) out tt
     (check-kept n answer
-    (by-tests check-answer.Refused checkNumber (λ r. refl)
-    ((not (extension.rightLengths main challenges offered), SliceLength) ∷ (wrongRows main, RowCount)
-    ∷ (not (allBelow main && allBelow challenges && allBelow offered), WordNotBelowP) ∷ (zeroDenominator main challenges, ZeroDenominator) ∷ [])
-    tt (check-answer.Checked (verdict challenges main offered)) zero-listed)
+    (by-tests check-answer.Refused checkNumber (λ r. refl) (checkTests main challenges offered) tt (check-answer.Checked (verdict challenges main offered)) zero-listed)
     out)
 
 decode-kept : {line : List ℕ} (a : DecodeAnswer) → answerNumber a ∈ 0 ∷ line → (out : List ℕ) → Answers line (answerNumber a) (answerWords a out ≡ out)
@@ -194,8 +140,8 @@ decode-kept (decode-answer.Row d) f out = done
 decode-kept (decode-answer.Refused r) f out = refused f refl
 
 -- operations that answer `Answer`
-by-refusals : {line : List ℕ} (ts : Tests) → Listed line ts → answerNumberOf (chain Refused ts Done) ∈ 0 ∷ line
-by-refusals ts l = by-tests Refused answerNumberOf (λ r. refl) ts l Done zero-listed
+by-refusals : {line : List ℕ} (tests : Tests) → T (allStand (0 ∷ line) tests) → answerNumberOf (first tests) ∈ 0 ∷ line
+by-refusals tests l = by-tests Refused answerNumberOf (λ r. refl) tests l Done zero-listed
 
 on-done : {line : List ℕ} (answer : Answer) → answerNumberOf answer ∈ 0 ∷ line → (result slice : List ℕ)
     → Answers line (answerNumberOf answer) (onDone answer result slice ≡ slice)
@@ -207,67 +153,18 @@ two-slices : {line : List ℕ} (answer : Answer) → answerNumberOf answer ∈ 0
 two-slices Done f r₁ s₁ r₂ s₂ = done
 two-slices (Refused r) f r₁ s₁ r₂ s₂ = refused f (refl, refl)
 
--- the tests of some operations, each with its refusal
-abbrev challengesTests : List ℕ → List ℕ → List ℕ → List ℕ → List ℕ → Tests
-challengesTests sampled digest input output lent =
-    (not (challenges.rightLengths sampled digest input output lent), SliceLength)
-    ∷ (not (allWordsBelow sampled digest input output), WordNotBelowP)
-    ∷ []
-
-abbrev fillTests : List ℕ → List ℕ → List ℕ → List ℕ → List ℕ → Tests
-fillTests trace op-stack ram jump-stack table =
-    (not (wholeRows trace && wholeRows table) || isLong (length op-stack) || isLong (length ram) || isLong (length jump-stack), SliceLength)
-    ∷ (isLong (rows table) || ltb (rows table) (rows trace), RowCount)
-    ∷ (not (allBelow trace && allBelow op-stack && allBelow ram && allBelow jump-stack), WordNotBelowP)
-    ∷ (not (allUnder (rows trace) op-stack && allUnder (rows trace) ram && allUnder (rows trace) jump-stack), DifferenceTooLarge)
-    ∷ []
-
-abbrev padTests : List ℕ → ℕ → Tests
-padTests table len =
-    (not (wholeRows table), SliceLength)
-    ∷ (ltb (rows table) 2 || isLong (rows table) || eqb len 0 || ltb (rows table) len, RowCount)
-    ∷ (not (allBelow (take (len * MAIN-WIDTH) table)), WordNotBelowP)
-    ∷ []
-
-abbrev extendTests : List ℕ → List ℕ → ℕ → List ℕ → List ℕ → Tests
-extendTests main challenges chunk aux work =
-    (not (extension.rightLengths main challenges aux), SliceLength)
-    ∷ (wrongRows main, RowCount)
-    ∷ (eqb chunk 0, ChunkLengthZero)
-    ∷ (wrongWork main chunk work, SliceLength)
-    ∷ (wrongWords main challenges, WordNotBelowP)
-    ∷ (zeroDenominator main challenges, ZeroDenominator)
-    ∷ []
-
-scans : {line : List ℕ} → T (every (stands line) (1 ∷ 5 ∷ 2 ∷ [])) → (width : ℕ) (scanned : List ℕ → List ℕ) → Scans line width scanned
+scans : (width : ℕ) (scanned : List ℕ → List ℕ) → Scans (1 ∷ 5 ∷ 2 ∷ []) width scanned
 unfolding scanAnswer scanWords
-scans t width scanned items chunk =
-    on-done (scanAnswer width items chunk)
-    (by-refusals ((not (wholeItems width items), SliceLength) ∷ (eqb chunk 0, ChunkLengthZero) ∷ (not (allBelow items), WordNotBelowP) ∷ []) t)
-    (scanned items) items
+scans width scanned items chunk = on-done (scanAnswer width items chunk) (by-refusals (scanTests width items chunk) tt) (scanned items) items
 
 abbrev readNumber : Reading → ℕ
 readNumber r = openNumber (answerOf r)
 
 -- the refusals of a batch's commands
-module _ (line : List ℕ) (t : T (every (stands line) (7 ∷ 8 ∷ 9 ∷ 10 ∷ 3 ∷ 12 ∷ 2 ∷ []))) where
-  cut-off : 8 ∈ 0 ∷ line
-  cut-off =
-      let later = and-both (stands line 7) (every (stands line) (8 ∷ 9 ∷ 10 ∷ 3 ∷ 12 ∷ 2 ∷ [])) t .1 in
-      listed BatchCutOff (and-both (stands line 8) (every (stands line) (9 ∷ 10 ∷ 3 ∷ 12 ∷ 2 ∷ [])) later .0)
-
+module _ (line : List ℕ) (t : (seen : Seen) (code : ℕ) (bytes : List ℕ) → T (allStand (0 ∷ line) (faultTests seen code bytes))) (cut-off : 8 ∈ 0 ∷ line) where
   command : (seen : Seen) (code : ℕ) (bytes : List ℕ) → answerNumberOf (fault seen code bytes) ∈ 0 ∷ line
   unfolding fault judged
-  command seen code bytes =
-      by-refusals
-      ((leb COMMANDS code, UnknownCommand)
-      ∷ (ltb (length bytes) (width code), BatchCutOff)
-      ∷ (outOfPlace (seen .rows) (seen .came) code (length bytes - width code), CommandOutOfPlace)
-      ∷ (outOfOrder seen code bytes, CommandOutOfOrder)
-      ∷ (wrongRowCount code (take (width code) bytes), RowCount)
-      ∷ (heightOutOfRange (seen .rows) code (take (width code) bytes), HeightOutOfRange)
-      ∷ (not (allBelow (wordsIn code bytes)), WordNotBelowP)
-      ∷ []) t
+  command seen code bytes = by-refusals (faultTests seen code bytes) (t seen code bytes)
 
   unless-refused : (answer : Answer) (next : Reading) → answerNumberOf answer ∈ 0 ∷ line → readNumber next ∈ 0 ∷ line → readNumber (unless answer next) ∈ 0 ∷ line
   unless-refused Done next f g = g
@@ -299,13 +196,8 @@ module _ (record-words : List ℕ) where
   extended-ends : (main : List ℕ) → Ends (extendedAnswer main record-words)
   unfolding extendedAnswer extendAnswer
   extended-ends main =
-      by-refusals
-      ((not (extension.rightLengths main record-words (zeros (rows main * 33))), SliceLength)
-      ∷ (wrongRows main, RowCount)
-      ∷ (wrongWork main 4 (zeros (startedChunks (rows main) 4 * 6)), SliceLength)
-      ∷ (wrongWords main record-words, WordNotBelowP)
-      ∷ (zeroDenominator main record-words, ZeroDenominator)
-      ∷ []) tt
+      let aux = zeros (rows main * 33) in
+      by-refusals (lengthsTest main record-words aux ∷ rowsTest main ∷ drop 3 (extendTests main record-words 4 aux (zeros (startedChunks (rows main) 4 * 6)))) tt
 
   padded-ends : (table : List ℕ) (len : ℕ) → Ends (paddedAnswer table len record-words)
   unfolding paddedAnswer padAnswer
@@ -324,7 +216,7 @@ unfolding openedAnswer challengesAnswer
 opened-ends counts trace op-stack ram jump-stack sampled digest input output =
     let read-words = take (counts .input) input in
     let wrote = take (counts .output) output in
-    let lent = zeros 189 in
+    let lent = zeros RECORD-WORDS in
     let derived = challengesRecord sampled digest read-words wrote lent in
     let rows-sent = take (counts .rows * 39) trace in
     let o = take (counts .«op_stack») op-stack in
@@ -341,8 +233,8 @@ terminals-end : (bytes : List ℕ) → Ends (terminalsAnswer bytes)
 unfolding terminalsAnswer openAnswer reading
 terminals-end bytes =
     after-open (openAnswer bytes 1248 128 128 128 177 5 64 64) bytes
-    (by-tests open-answer.Refused openNumber (λ r. refl) ((ltb batch.MAX-BYTES (length bytes) || false, SliceLength) ∷ []) tt
-    (answerOf (reading bytes)) (batch-read _ tt (length bytes) [] bytes))
+    (by-tests open-answer.Refused openNumber (λ r. refl) ((SliceLength when ltb batch.MAX-BYTES (length bytes) || false) ∷ []) tt
+    (answerOf (reading bytes)) (batch-read _ (λ seen code rest. tt) (standing BatchCutOff tt) (length bytes) [] bytes))
 
 module _ (bytes : List ℕ) (lent : Slices) where
   open-kept : {line : List ℕ} (answer : OpenAnswer) → openNumber answer ∈ 0 ∷ line
@@ -355,38 +247,32 @@ pub term1 : Term1
 unfolding decodeAnswer challengesAnswer challengesRecord fillAnswer fillTable padAnswer padTable extendAnswer extendAux extendWork strictAnswer strictAux strictWork openInto openAnswer reading writeAnswer writeBatch terminalsInto cellsInto
 term1 =
     record {
-      base-add = λ a b. word-checked (ltb a p && ltb b p) (base.plus a b);
-      base-sub = λ a b. word-checked (ltb a p && ltb b p) (base.minus a b);
-      base-mul = λ a b. word-checked (ltb a p && ltb b p) (base.times a b);
-      base-inverse = λ a. inverse-checked a (base.inverse a);
-      to-montgomery = λ a. word-checked (ltb a p) (toMontgomery a);
-      from-montgomery = λ a. word-checked (ltb a p) (fromMontgomery a);
-      montgomery-add = λ a b. word-checked (ltb a p && ltb b p) (base.plus a b);
-      montgomery-mul = λ a b. word-checked (ltb a p && ltb b p) (montgomeryProduct a b);
-      montgomery-inverse = λ a. inverse-checked a (montgomeryInverse a);
-      element-add = on-elements elementAdd tt (λ d e. element-checked (canonical d && canonical e) (element-answer.Element (sum d e)) tt zero-listed);
-      element-sub = on-elements elementSub tt (λ d e. element-checked (canonical d && canonical e) (element-answer.Element (difference d e)) tt zero-listed);
-      element-mul = on-elements elementMul tt (λ d e. element-checked (canonical d && canonical e) (element-answer.Element (product d e)) tt zero-listed);
-      element-scale = λ k. on-element (elementScale k) tt (λ e. element-checked (ltb k p && canonical e) (element-answer.Element (scale k e)) tt zero-listed);
-      element-inverse =
-          on-element elementInverse tt
-          (λ e.
-          let element = element-answer.Element (inverse e) in
-          element-checked (canonical e) (cond (isZero e) (element-answer.Refused ZeroDenominator) element) tt
-          (chosen answers.elementNumber (isZero e) (element-answer.Refused ZeroDenominator) element (listed ZeroDenominator tt) zero-listed));
+      base-add = λ a b. on-words (wordsTests a b) _ tt tt;
+      base-sub = λ a b. on-words (wordsTests a b) _ tt tt;
+      base-mul = λ a b. on-words (wordsTests a b) _ tt tt;
+      base-inverse = λ a. on-words (inverseTests a) _ tt tt;
+      to-montgomery = λ a. on-words (wordTests a) _ tt tt;
+      from-montgomery = λ a. on-words (wordTests a) _ tt tt;
+      montgomery-add = λ a b. on-words (wordsTests a b) _ tt tt;
+      montgomery-mul = λ a b. on-words (wordsTests a b) _ tt tt;
+      montgomery-inverse = λ a. on-words (inverseTests a) _ tt tt;
+      element-add = on-elements elementAdd tt (λ d e. element-listed (answers.elementsTests d e) tt _);
+      element-sub = on-elements elementSub tt (λ d e. element-listed (answers.elementsTests d e) tt _);
+      element-mul = on-elements elementMul tt (λ d e. element-listed (answers.elementsTests d e) tt _);
+      element-scale = λ k. on-element (elementScale k) tt (λ e. element-listed (answers.scaleTests k e) tt _);
+      element-inverse = on-element elementInverse tt (λ e. element-listed (answers.inverseTests e) tt _);
       decode = λ row out.
           guarded (eqb (length out) 2) (answerNumber (decodeAnswer row)) (answerWords (decodeAnswer row) out) out tt
           (decode-kept (decodeAnswer row)
-          (by-tests decode-answer.Refused answerNumber (λ r. refl) ((not (eqb (length row) MAIN-WIDTH), SliceLength) ∷ (not (allBelow row), WordNotBelowP) ∷ []) tt
-          (decode-answer.Row (decoded (getD row CI 0) (getD row NIA 0))) zero-listed)
+          (by-tests decode-answer.Refused answerNumber (λ r. refl) (decodeTests row) tt _ zero-listed)
           out);
       challenges = λ sampled digest input output lent.
           on-done (challengesAnswer sampled digest input output lent)
           (by-refusals (challengesTests sampled digest input output lent) tt)
           (derivedRecord sampled digest input output) lent;
-      scan-maps = scans tt 6 scannedMaps;
-      scan-products = scans tt 3 scannedProducts;
-      scan-sums = scans tt 3 scannedSums;
+      scan-maps = scans 6 scannedMaps;
+      scan-products = scans 3 scannedProducts;
+      scan-sums = scans 3 scannedSums;
       fill = λ trace op-stack ram jump-stack table.
           on-done (fillAnswer trace op-stack ram jump-stack table)
           (by-refusals (fillTests trace op-stack ram jump-stack table) tt)
@@ -401,10 +287,7 @@ term1 =
           two-slices (extendAnswer main challenges chunk aux work) (by-refusals (extendTests main challenges chunk aux work) tt)
           (extended main challenges) aux (replicate (length work) 0) work;
       extend-strict = λ main challenges chunk aux work.
-          let answer = extendAnswer main challenges chunk aux work in
-          two-slices (strictAnswer main challenges chunk aux work)
-          (chosen answerNumberOf (undecodable main && behindEleven answer) (Refused UndecodableRow) answer (listed UndecodableRow tt)
-          (by-refusals (extendTests main challenges chunk aux work) tt))
+          two-slices (strictAnswer main challenges chunk aux work) (by-refusals (testsIn true main challenges chunk aux work) tt)
           (extended main challenges) aux (replicate (length work) 0) work;
       open-batch = λ bytes lent.
           let answer = openAnswer bytes (length (lent .trace)) (length (lent .op-stack)) (length (lent .ram)) (length (lent .jump-stack)) (length (lent .sampled))
@@ -414,20 +297,15 @@ term1 =
           open-kept bytes lent
           (cond (eqb (length (lent .counts)) 7) answer (open-answer.Refused SliceLength))
           (chosen openNumber (eqb (length (lent .counts)) 7) answer (open-answer.Refused SliceLength)
-          (by-tests open-answer.Refused openNumber (λ r. refl) ((ltb batch.MAX-BYTES (length bytes) || not lengths, SliceLength) ∷ []) tt
-          (answerOf (reading bytes)) (batch-read _ tt (length bytes) [] bytes))
-          (listed SliceLength tt));
+          (by-tests open-answer.Refused openNumber (λ r. refl) ((SliceLength when ltb batch.MAX-BYTES (length bytes) || not lengths) ∷ []) tt
+          (answerOf (reading bytes)) (batch-read _ (λ seen code rest. tt) (standing BatchCutOff tt) (length bytes) [] bytes))
+          (standing SliceLength tt));
       write-batch = λ contents form bytes.
           on-done (writeAnswer (toldForm form) contents (length bytes))
-          (by-refusals
-          ((not (writer.rightLengths (toldForm form) contents (length bytes)), SliceLength)
-          ∷ (not (leb 1 (rows (contents .trace)) && leb (rows (contents .trace)) MAX-ROWS), RowCount)
-          ∷ (writer.refusedHeight (rows (contents .trace)) (contents .log2-height), HeightOutOfRange)
-          ∷ (not (writer.allWordsBelow contents), WordNotBelowP)
-          ∷ []) tt)
+          (by-refusals (writeTests (toldForm form) contents (length bytes)) tt)
           (batchOf (toldForm form) contents) bytes;
       terminals = λ bytes cells.
           on-done (terminalsInto bytes cells)
-          (chosen answerNumberOf (eqb (length cells) 33) (terminalsAnswer bytes) (Refused SliceLength) (terminals-end bytes) (listed SliceLength tt))
+          (chosen answerNumberOf (eqb (length cells) 33) (terminalsAnswer bytes) (Refused SliceLength) (terminals-end bytes) (standing SliceLength tt))
           (terminalsCells bytes) cells;
     }

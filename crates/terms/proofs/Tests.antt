@@ -1,6 +1,6 @@
 -- Tests that compute, and values chosen by a decision.
 use mathlib.Core.Path.{_≡_, refl}
-use mathlib.Core.Bool.{Bool, true, false, cond, _&&_}
+use mathlib.Core.Bool.{Bool, true, false, cond, _&&_, false≢true}
 use mathlib.Core.List.{List, [], _∷_}
 use lib.Dec.{T}
 use Rattle.algebra.specs.Polynomial.{All}
@@ -8,10 +8,6 @@ use Rattle.algebra.specs.Polynomial.{All}
 pub and-both : (s t : Bool) → T (s && t) → T s × T t
 and-both true t h = (tt, h)
 and-both false t h = absurd h
-
-pub both-and : (s t : Bool) → T s → T t → T (s && t)
-both-and true t g h = h
-both-and false t g h = g
 
 abbrev pub every : {A : Type 0} → (A → Bool) → List A → Bool
 every test [] = true
@@ -26,8 +22,8 @@ choose (yes q) a b = a
 choose (no n) a b = b
 
 -- a test that agrees with the decision
-pub choose-cond : {Q A : Type 0} (d : Dec Q) (t : Bool) (a b : A) → (Q → T t) → (T t → Q) → choose d a b ≡ cond t a b
+pub choose-cond : {Q A : Type 0} (d : Dec Q) (t : Bool) (a b : A) → (Q → t ≡ true) → (t ≡ true → Q) → choose d a b ≡ cond t a b
 choose-cond (yes q) true a b h k = refl
-choose-cond (yes q) false a b h k = absurd (h q)
-choose-cond (no n) true a b h k = absurd (n (k tt))
+choose-cond (yes q) false a b h k = absurd (false≢true (h q))
+choose-cond (no n) true a b h k = absurd (n (k refl))
 choose-cond (no n) false a b h k = refl

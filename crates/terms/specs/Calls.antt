@@ -1,23 +1,21 @@
 -- Terms 2 and 3 over calls of `extend`: what the function's own contract says of its slices.
 use mathlib.Core.Path.{_≡_}
 use mathlib.Core.List.{List}
-use Prim.Native.Nat.{ℕ, suc, _+_, _-_, _*_, _≤_, _<_}
+use Prim.Native.Nat.{ℕ, suc, _-_, _≤_, _<_}
 use lib.ListN.{length}
 use contract.Lifetimes.{Lfts}
 use borrow.Fn.World.{ArgsD, ResD}
 use borrow.Fn.Kinds.{endedOf}
 use denote.Ref.{now}
 use denote.Triple.Clauses.{AtExit}
-use Rattle.air.specs.AuxColumn.{AUX-WORDS}
 use Rattle.algebra.specs.Polynomial.{All, Distinct}
-use Rattle.field.specs.Element.{elementAt}
 use Rattle.field.specs.declared.XFieldElement.{XFieldElement}
 use Rattle.refusal.specs.declared.Answer.the-variants.{Done}
 use Rattle.air.specs.ChallengeId.{SAMPLE-COUNT}
 use Rattle.challenges.specs.Derived.{challengeAt}
 use Rattle.table_rows.specs.Rows.{rows}
 use Rattle.column_entries.specs.Columns.{Column, kindOf, indeterminateOf, weights, entries, argument}
-use Rattle.column_entries.specs.AuxRow.{placeOf}
+use Rattle.column_entries.specs.AuxRow.{cellAt}
 use Rattle.extend.proofs.extend.{signature}
 use Rattle.extend.proofs.extend.Kinds as kinds
 use Rattle.extend.proofs.extend.Reads.{Learnt}
@@ -34,7 +32,7 @@ pub record Call (c : Column) (sampled : ℕ → XFieldElement) (x : XFieldElemen
   pub main-lent : now (arguments .0) ≡ main
   pub given : (j : ℕ) → j < SAMPLE-COUNT → challengeAt (now (arguments .1 .0)) j ≡ put (indeterminateOf c) x sampled j
   pub accepted : answer ≡ Done
-  pub last : elementAt (now (left .1 .1 .1 .0)) ((rows main - 1) * AUX-WORDS + placeOf c * 3) ≡ v
+  pub last : cellAt c (now (left .1 .1 .1 .0)) (rows main - 1) ≡ v
 
 -- the bound of term 3, for calls
 abbrev pub Term3OfCalls : Type 0
@@ -51,5 +49,5 @@ Term2OfCalls =
     (lifetimes : Lfts 4) (arguments : ArgsD signature lifetimes) (answer : ResD signature lifetimes) (left : AtExit (endedOf 4 kinds.ps kinds.r) lifetimes)
     → Learnt lifetimes arguments answer left → answer ≡ Done
     → (c : Column) (r : ℕ) → r < rows (now (arguments .0))
-    → elementAt (now (left .1 .1 .1 .0)) (r * AUX-WORDS + placeOf c * 3)
+    → cellAt c (now (left .1 .1 .1 .0)) r
     ≡ argument (kindOf c) (challengeAt (now (arguments .1 .0)) (indeterminateOf c)) (entries c (weights c (now (arguments .1 .0))) (now (arguments .0)) (suc r))

@@ -13,9 +13,10 @@ use Rattle.air.specs.AuxColumn.{AUX-WORDS}
 use Rattle.air.specs.declared.AuxIndex.{AuxIndex}
 use Rattle.table_rows.specs.Rows.{rows, startedChunks}
 use Rattle.column_entries.specs.Columns.{Column, running, cell}
+use Rattle.column_entries.specs.AuxRow.{cellAt}
 use Rattle.extend_answer.specs.Answer.{WORK-WORDS, extendAnswer}
 use Rattle.extend.specs.Extend.{extendAux}
-use Rattle.check_relations.specs.Offered.{cellAt, cellBefore, holds}
+use Rattle.check_relations.specs.Offered.{cellBefore, holds}
 use Rattle.check_relations.specs.First.{indexOf, FailsFirst}
 use Rattle.check_relations.specs.declared.Verdict.{Verdict}
 use Rattle.check_relations.specs.declared.Verdict.the-variants.{Yes, No}

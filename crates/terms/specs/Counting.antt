@@ -1,20 +1,15 @@
 -- Term 3, kind by kind: at how many values of the indeterminate two lists of entries that differ give the same cell.
 use mathlib.Core.Path.{_≡_}
 use mathlib.Core.Logic.{_≢_}
-use mathlib.Core.Bool.{Bool, cond, _&&_}
+use mathlib.Core.Bool.{cond}
 use mathlib.Core.List.{List, [], _∷_}
 use Prim.Native.Nat.{ℕ, _+_, _-_, _%_, _≤_, max}
-use lib.Dec.{eqb}
 use lib.ListN.{length}
 use Rattle.algebra.specs.Modulus.{p}
 use Rattle.algebra.specs.Polynomial.{All, Distinct}
-use Rattle.field.specs.Element.{Canonical, zero, difference}
+use Rattle.field.specs.Element.{Canonical, same, zero, difference}
 use Rattle.field.specs.declared.XFieldElement.{XFieldElement}
 use Rattle.cross_table_argument.specs.CrossTable.{Fraction, evaluationArgument, permutationArgument, lookupArgument}
-
--- whether two elements have the same three words
-unfoldable pub same : XFieldElement → XFieldElement → Bool
-same a b = eqb (a .c0) (b .c0) && (eqb (a .c1) (b .c1) && eqb (a .c2) (b .c2))
 
 -- how often an element stands in a list
 unfoldable pub count : XFieldElement → List XFieldElement → ℕ

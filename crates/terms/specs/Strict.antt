@@ -2,20 +2,16 @@
 -- some row undecodable, after 2 and before 6."
 use mathlib.Core.Path.{_≡_}
 use mathlib.Core.Logic.{_↔_, _≢_}
-use mathlib.Core.Bool.{true, false, _&&_, _||_}
 use mathlib.Core.List.{List}
-use Prim.Native.Nat.{ℕ, _*_, _<_}
-use lib.Dec.{eqb}
-use lib.ListN.{length}
-use Rattle.refusal.specs.Long.{isLong}
+use Prim.Native.Nat.{ℕ, _<_}
+use Rattle.refusal.specs.Tests.{NoneHolds}
 use Rattle.refusal.specs.declared.Answer.the-variants.{Refused}
 use Rattle.refusal.specs.declared.Refusal.the-variants.{UndecodableRow}
-use Rattle.field_base.specs.Words.{allBelow}
 use Rattle.isa.specs.declared.Instruction.{Instruction}
 use Rattle.isa_decoding.specs.declared.Decoded.the-variants.{Read}
-use Rattle.table_rows.specs.Rows.{rows, rowAt, startedChunks}
+use Rattle.table_rows.specs.Rows.{rows, rowAt}
 use Rattle.column_entries.specs.Row.{instructionOf}
-use Rattle.extend_answer.specs.Answer.{WORK-WORDS, rightLengths, extendAnswer}
+use Rattle.extend_answer.specs.Answer.{testsThroughTwo, extendAnswer}
 use Rattle.extend_answer.specs.Strict.{strictAnswer}
 use Rattle.extend.specs.Extend.{extendAux, extendWork, strictAux, strictWork}
 
@@ -24,12 +20,8 @@ abbrev pub Undecodable : List ℕ → ℕ → Type 0
 Undecodable main c = (i : Instruction) → instructionOf (rowAt main c) ≢ Read i
 
 -- none of the refusals before 11 holds: 1, 3, 5, 1 for work, and 2
-pub record PastTwo (main challenges : List ℕ) (chunk : ℕ) (aux work : List ℕ) : Type 0 where
-  pub lengths : rightLengths main challenges aux ≡ true
-  pub row-count : (eqb (rows main) 0 || isLong (rows main)) ≡ false
-  pub chunk-length : eqb chunk 0 ≡ false
-  pub work-length : eqb (length work) (startedChunks (rows main) chunk * WORK-WORDS) ≡ true
-  pub words : (allBelow main && allBelow challenges) ≡ true
+abbrev pub PastTwo : List ℕ → List ℕ → ℕ → List ℕ → List ℕ → Type 0
+PastTwo main challenges chunk aux work = NoneHolds (testsThroughTwo main challenges chunk aux work)
 
 module _ (main challenges : List ℕ) (chunk : ℕ) (aux work : List ℕ) where
   -- 11 is answered exactly if some row does not decode and none of the refusals before it holds

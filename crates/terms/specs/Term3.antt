@@ -3,19 +3,17 @@ use mathlib.Core.Path.{_≡_}
 use mathlib.Core.Logic.{_≢_}
 use mathlib.Core.Bool.{cond}
 use mathlib.Core.List.{List, map}
-use Prim.Native.Nat.{ℕ, _+_, _-_, _*_, _≤_, _<_, max}
+use Prim.Native.Nat.{ℕ, _+_, _-_, _≤_, _<_, max}
 use lib.Dec.{eqb}
 use lib.ListN.{length}
-use Rattle.air.specs.AuxColumn.{AUX-WORDS}
 use Rattle.algebra.specs.Polynomial.{All, Distinct}
-use Rattle.field.specs.Element.{elementAt}
 use Rattle.field.specs.declared.XFieldElement.{XFieldElement}
 use Rattle.refusal.specs.declared.Answer.the-variants.{Done}
 use Rattle.air.specs.ChallengeId.{SAMPLE-COUNT}
 use Rattle.challenges.specs.Derived.{challengeAt}
 use Rattle.table_rows.specs.Rows.{rows}
 use Rattle.column_entries.specs.Columns.{Column, Kind, evaluation, product, lookup, kindOf, Entry, indeterminateOf, weightsOf, entries}
-use Rattle.column_entries.specs.AuxRow.{placeOf}
+use Rattle.column_entries.specs.AuxRow.{cellAt}
 use Rattle.extend_answer.specs.Answer.{extendAnswer}
 use Rattle.extend.specs.Extend.{extendAux}
 use Rattle.terms.specs.Counting.{SameBag, NumeratorsDiffer}
@@ -37,7 +35,7 @@ pub record Ends (c : Column) (sampled : ℕ → XFieldElement) (x : XFieldElemen
   pub work : List ℕ
   pub given : (j : ℕ) → j < SAMPLE-COUNT → challengeAt challenges j ≡ put (indeterminateOf c) x sampled j
   pub accepted : extendAnswer main challenges chunk aux work ≡ Done
-  pub last : elementAt (extendAux main challenges chunk aux work) ((rows main - 1) * AUX-WORDS + placeOf c * 3) ≡ v
+  pub last : cellAt c (extendAux main challenges chunk aux work) (rows main - 1) ≡ v
 
 -- entries differ as lists; as bags; as numerators, summed modulo p, for some element
 abbrev pub Differ : (k : Kind) → List (Entry k) → List (Entry k) → Type 0

@@ -8,6 +8,7 @@ use lib.Dec.{eqb}
 use borrow.Author.Tests.{eqb-true}
 use Rattle.batch_words.specs.Words.{words}
 use Rattle.batch_commands.specs.Format.{width, keyWidth, key, rank, wordsIn, Command}
+use Rattle.batch_commands.proofs.Tables.{all-words}
 use Rattle.batch_reader.specs.Commands.{contents}
 use Rattle.batch_reader.proofs.Ordered.{NotBefore, OrderedFrom, Ordered, not-before-past}
 use Rattle.batch_sorted.specs.Sorted.{sorted}
@@ -21,7 +22,7 @@ Follows code r m b = (n : ℕ) → NotBefore r m (rank code) n → b ≤ n
 module _ (code : ℕ) (wide : width code ≡ 8) (keyed : keyWidth code ≡ 8) where
   pub word-is : (operand : List ℕ) → wordsIn code operand ≡ key code operand ∷ []
   unfolding words key
-  word-is operand = rw (wide, keyed)
+  word-is operand = all-words code operand ∙ rw (wide, keyed)
 
   ascends-by : (k : Command) (ks : List Command) (r m b : ℕ) (same : Bool) → eqb (k .code) code ≡ same → NotBefore r m (rank (k .code)) (key (k .code) (k .operand)) → Follows code r m b
       → ((a : ℕ) → Follows code (rank (k .code)) (key (k .code) (k .operand)) a → Ascending a (contents code ks)) → Ascending b (cond same (wordsIn (k .code) (k .operand)) [] ++ contents code ks)

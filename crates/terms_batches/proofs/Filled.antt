@@ -1,5 +1,5 @@
 -- A section of the writer's commands: each is proper, how many there are of a kind, and what they bring.
-use mathlib.Core.Path.{_≡_, refl, sym}
+use mathlib.Core.Path.{_≡_, refl, sym, _∙_}
 use mathlib.Core.Bool.{Bool, true, false, cond}
 use mathlib.Core.List.{List, [], _++_, append-nil}
 use Prim.Native.Nat.{ℕ, zero, suc, _+_, _*_, _/_, _<_}
@@ -13,6 +13,7 @@ use Rattle.field_base.proofs.Below.{below-take, below-drop}
 use Rattle.batch_words.specs.Words.{words, bytesOf}
 use Rattle.batch_words.proofs.Writing.{length-bytesOf, words-below-bytesOf}
 use Rattle.batch_commands.specs.Format.{END, COMMANDS, width, wordsIn}
+use Rattle.batch_commands.proofs.Tables.{all-words}
 use Rattle.batch_reader.specs.Commands.{count, contents}
 use Rattle.batch_reader.proofs.Ordered.{Every}
 use Rattle.batch_writer.specs.Layout.{commandsWith}
@@ -20,7 +21,7 @@ use Rattle.terms_batches.proofs.Sound.{Proper}
 
 -- the operand says its words
 pub words-of : (code : ℕ) (ws : List ℕ) → length ws ≡ width code / 8 → allBelow ws ≡ true → wordsIn code (bytesOf ws) ≡ ws
-words-of code ws l b = rw (sym l) (rw append-nil at (words-below-bytesOf ws [] b))
+words-of code ws l b = all-words code (bytesOf ws) ∙ rw (sym l) (rw append-nil at (words-below-bytesOf ws [] b))
 
 -- n commands of one kind bring exactly these words
 pub record Filled (n code : ℕ) (ws : List ℕ) : Type 0 where

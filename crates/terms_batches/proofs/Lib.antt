@@ -14,3 +14,4 @@ pub mod Filled
 pub mod Joined
 pub mod Writable
 pub mod Written
+pub mod SameBytes

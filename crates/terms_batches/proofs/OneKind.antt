@@ -10,9 +10,9 @@ use lib.ListN.{length}
 use lib.Seq.{take-at, drop-at, take-all}
 use borrow.Author.Tests.{eqb-true}
 use Rattle.batch_words.specs.Words.{words, bytesOf}
-use Rattle.batch_words.proofs.Bytes.{length-words}
 use Rattle.batch_words.proofs.Writing.{bytesOf-words}
 use Rattle.batch_commands.specs.Format.{width, wordsIn, Command}
+use Rattle.batch_commands.proofs.Tables.{all-words, length-words-in}
 use Rattle.batch_reader.specs.Commands.{count, contents}
 use Rattle.batch_reader.proofs.Ordered.{Every}
 use Rattle.batch_writer.specs.Layout.{commandsWith}
@@ -25,14 +25,14 @@ Sized k = (length (k .operand) ≡ width (k .code)) × Bytes (k .operand)
 
 -- the operand is written again from its words
 same-operand : (code : ℕ) (operand : List ℕ) → 8 * (width code / 8) ≡ width code → length operand ≡ width code → Bytes operand → bytesOf (wordsIn code operand) ≡ operand
-same-operand code operand even l b = bytesOf-words (width code / 8) operand (omega arith) b ∙ take-all (8 * (width code / 8)) operand (omega arith)
+same-operand code operand even l b = ap bytesOf (all-words code operand) ∙ bytesOf-words (width code / 8) operand (omega arith) b ∙ take-all (8 * (width code / 8)) operand (omega arith)
 
 module _ (code : ℕ) (even : 8 * (width code / 8) ≡ width code) where
   first-is : (k : Command) (ks : List Command) → Sized k → k .code ≡ code → k ∷ commandsWith (count code ks) code (contents code ks) ≡ commandsWith (suc (count code ks)) code (wordsIn (k .code) (k .operand) ++ contents code ks)
   unfolding commandsWith
   first-is k ks sized e =
       let ws = wordsIn (k .code) (k .operand) in
-      let n : length ws ≡ width code / 8 = length-words (width (k .code) / 8) (k .operand) ∙ ap (λ c. width c / 8) e in
+      let n : length ws ≡ width code / 8 = length-words-in (k .code) (k .operand) ∙ ap (λ c. width c / 8) e in
       let bytes : bytesOf ws ≡ k .operand = same-operand (k .code) (k .operand) (rw e even) (sized .0) (sized .1) in
       rw (take-at ws (contents code ks) (width code / 8) n, drop-at ws (contents code ks) (width code / 8) n, bytes)
       (ap (λ c. record { code = c; operand = k .operand } ∷ commandsWith (count code ks) code (contents code ks)) e)

@@ -13,10 +13,10 @@ use Rattle.field_base.specs.Words.{allBelow}
 use Rattle.field_base.proofs.Below.{and-true, below-append}
 use Rattle.refusal.proofs.Answers.{or-false}
 use Rattle.batch_words.specs.Words.{number, words}
-use Rattle.batch_commands.specs.Format.{END, TRACE-ROWS, SAMPLED, DIGEST, HEIGHT, MAX-ROWS, COMMANDS, width, wordsIn, wordsFor, rank, key, Command}
+use Rattle.batch_commands.specs.Format.{END, TRACE-ROWS, SAMPLED, DIGEST, HEIGHT, MAX-ROWS, COMMANDS, width, wordsIn, wordsFor, limit, rank, key, Command}
 use Rattle.field_montgomery.specs.declared.Form.{Form}
 use Rattle.batch_commands.specs.Form.{rowCommand, otherForm, OfForm}
-use Rattle.batch_commands.specs.Fault.{limit, rowsIn, missing, wrongRowCount, wrongHeight, heightOutOfRange}
+use Rattle.batch_commands.specs.Fault.{rowsIn, missing, wrongRowCount, wrongHeight, heightOutOfRange}
 use Rattle.batch_reader.specs.Commands.{count, counts, contents, formOf, announced, heightOf, highestRank, lastKey, seenIn}
 use Rattle.batch_reader.specs.Reading.{read, reading}
 use Rattle.batch_reader.proofs.Commands.{count-append, count-at, count-past}
@@ -74,11 +74,14 @@ starts-by : (ks : List Command) → Faultless [] ks → Passes (seenIn ks) END [
 starts-by [] h p = absurd (omega (arith, first-is END [] p))
 starts-by (k ∷ ks) h p = first-is (k .code) (k .operand) (h .0 .passes)
 
+row-count-right : (code : ℕ) (operand : List ℕ) → code ≡ TRACE-ROWS → wrongRowCount code operand ≡ false → not (leb 1 (number operand) && leb (number operand) MAX-ROWS) ≡ false
+row-count-right code operand s h = rw (eq-eqb code TRACE-ROWS s) at h
+
 some-by : (ks : List Command) → Faultless [] ks → Starts ks → 1 ≤ announced ks
 some-by [] h s = absurd s
 some-by (k ∷ ks) h s =
     let n = number (take (width (k .code)) (k .operand)) in
-    let t : not (leb 1 n && leb n MAX-ROWS) ≡ false = rw (eq-eqb (k .code) TRACE-ROWS s) at (h .0 .passes .row-count) in
+    let t : not (leb 1 n && leb n MAX-ROWS) ≡ false = row-count-right (k .code) (take (width (k .code)) (k .operand)) s (h .0 .passes .row-count) in
     let v = and-true (leb 1 n) (leb n MAX-ROWS) (not-false (leb 1 n && leb n MAX-ROWS) t) in
     rw (take-all (width (k .code)) (k .operand) (omega (arith, h .0 .whole))) at (leb-true 1 n (v .0))
 

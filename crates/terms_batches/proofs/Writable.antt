@@ -1,6 +1,6 @@
 -- Contents that the writer takes.
 use mathlib.Core.Path.{_≡_, sym}
-use mathlib.Core.Bool.{Bool, true, false, not, _&&_}
+use mathlib.Core.Bool.{Bool, true, false, _&&_}
 use mathlib.Core.List.{List, [], _∷_}
 use Prim.Native.Nat.{ℕ, _≤_}
 use lib.Dec.{leb}
@@ -8,13 +8,12 @@ use borrow.Author.Tests.{leb-true, not-false}
 use Rattle.field_base.specs.Words.{allBelow}
 use Rattle.field_base.proofs.Below.{and-true}
 use Rattle.refusal.specs.declared.Answer.the-variants.{Done}
-use Rattle.refusal.specs.declared.Refusal.the-variants.{SliceLength, RowCount, HeightOutOfRange, WordNotBelowP}
-use Rattle.refusal.proofs.Answers.{past}
+use Rattle.refusal.proofs.First.{done-exactly}
 use Rattle.table_rows.specs.Rows.{rows}
 use Rattle.batch_commands.specs.Format.{MAX-ROWS}
 use Rattle.field_montgomery.specs.declared.Form.{Form}
 use Rattle.batch_writer.specs.Contents.{Contents}
-use Rattle.batch_writer.specs.Write.{rightLengths, allWordsBelow, refusedHeight, writeAnswer}
+use Rattle.batch_writer.specs.Write.{rightLengths, allWordsBelow, refusedHeight, writeTests, writeAnswer}
 use Rattle.batch_writer.proofs.Lengths.{Right, right, all-right}
 use Rattle.batch_writer.proofs.Answers.{all-done}
 use Rattle.terms_batches.proofs.Conjunctions.{all-true, true-all}
@@ -49,17 +48,14 @@ module _ (form : Form) (contents : Contents) (n : ℕ) where
   unfolding writeAnswer
   writable e =
       let count = rows (contents .trace) in
-      let a = past (not (rightLengths form contents n)) SliceLength _ e in
-      let b = past (not (leb 1 count && leb count MAX-ROWS)) RowCount _ (a .1) in
-      let d = past (refusedHeight count (contents .log2-height)) HeightOutOfRange _ (b .1) in
-      let c = past (not (allWordsBelow contents)) WordNotBelowP _ (d .1) in
-      let r = and-true (leb 1 count) (leb count MAX-ROWS) (not-false (leb 1 count && leb count MAX-ROWS) (b .0)) in
-      let w = all-true (allBelow (contents .trace)) lists (not-false (allWordsBelow contents) (c .0)) in
+      let none = done-exactly (writeTests form contents n) .0 e in
+      let r = and-true (leb 1 count) (leb count MAX-ROWS) (not-false (leb 1 count && leb count MAX-ROWS) (none .1 .0)) in
+      let w = all-true (allBelow (contents .trace)) lists (not-false (allWordsBelow contents) (none .1 .1 .1 .0)) in
       record {
-        lengths = right contents form n (not-false (rightLengths form contents n) (a .0));
+        lengths = right contents form n (not-false (rightLengths form contents n) (none .0));
         some-rows = leb-true 1 count (r .0);
         few-rows = leb-true count MAX-ROWS (r .1);
-        height = d .0;
+        height = none .1 .1 .0;
         trace = w .0;
         op-stack = w .1 .0;
         ram = w .1 .1 .0;

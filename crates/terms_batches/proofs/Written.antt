@@ -16,8 +16,7 @@ use Rattle.air.specs.ChallengeId.{SAMPLED-WORDS, DIGEST-WORDS}
 use Rattle.table_rows.specs.Rows.{rows}
 use Rattle.batch_words.specs.Words.{words, littleEndian}
 use Rattle.batch_words.proofs.Writing.{length-littleEndian, number-littleEndian}
-use Rattle.batch_commands.specs.Format.{END, TRACE-ROWS, ROW, OP-STACK, RAM, JUMP-STACK, SAMPLED, DIGEST, INPUT, OUTPUT, MONTGOMERY-ROW, HEIGHT, COMMANDS, MAX-LOG-2-HEIGHT, width, keyWidth, key, rank, Command, laidOut}
-use Rattle.batch_commands.specs.Fault.{limit}
+use Rattle.batch_commands.specs.Format.{END, TRACE-ROWS, ROW, OP-STACK, RAM, JUMP-STACK, SAMPLED, DIGEST, INPUT, OUTPUT, MONTGOMERY-ROW, HEIGHT, COMMANDS, MAX-LOG-2-HEIGHT, width, limit, keyWidth, key, rank, Command, laidOut}
 use Rattle.field_montgomery.specs.declared.Form.{Form}
 use Rattle.field_montgomery.specs.declared.Form.the-variants.{Plain, Montgomery}
 use Rattle.batch_commands.specs.Form.{rowCommand, otherForm}

@@ -2,3 +2,4 @@
 pub mod Opening
 pub mod OneBatch
 pub mod Written
+pub mod SameBytes

@@ -41,29 +41,14 @@ module _ (table : List ℕ) (listed : Listed table) (i : Instruction) {k : ℕ} 
 below-at : (c : tie.After-opcode) → c .opcode .result < 89
 below-at c = omega (arith, c .opcode .ensures, c .before .instructions .ensures (c .before .before .args .i) .0)
 
-instructions-requires : tie.Need-instructions-requires
-instructions-requires c κs = search needs
-
-opcode-requires : tie.Need-opcode-requires
-opcode-requires c κs = search needs
-
 mul-at : tie.Need-mul-at
 mul-at c = let small = below-at c in search needs
 
 add-end : tie.Need-add-end
 add-end c = let small = below-at c in search needs
 
-sub-name-of : tie.Need-sub-name-of
-sub-name-of c = search needs
-
-part-name-of-start : tie.Need-part-name-of-start
-part-name-of-start c = search needs
-
 part-name-of-end : tie.Need-part-name-of-end
 part-name-of-end c = let small = below-at (c .before) in search needs
-
-name-of-requires : tie.Need-name-of-requires
-name-of-requires c κs = search needs
 
 returns : tie.Need-returns
 returns c =
@@ -78,12 +63,5 @@ pub instruction-spec : {M : Type 1} → statement M
 instruction-spec =
     tie.close
     (tie.spec
-    instructions-requires
-    opcode-requires
-    mul-at
-    add-end
-    sub-name-of
-    part-name-of-start
-    part-name-of-end
-    name-of-requires
-    returns)
+    (λ c κs. search needs) (λ c κs. search needs) mul-at add-end (λ c. search needs) (λ c. search needs)
+    part-name-of-end (λ c κs. search needs) returns)

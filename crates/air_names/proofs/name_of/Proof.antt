@@ -62,9 +62,6 @@ returns c =
     let spelt = whole (at-loop .loop .inv .3) (ends text n (omega (arith, length-take 48 text))) in
     record { long = counted n (at-loop .loop .bytes) room spelt; spelt = spelt }
 
-shared-slice-read-if2 : tie.Need-shared-slice-read-if2 Inv-loop μ-loop
-shared-slice-read-if2 c = search needs
-
 returns-2 : tie.Need-returns-2 Inv-loop μ-loop
 returns-2 c =
     let at-loop = c .before .before .before .before in
@@ -73,18 +70,6 @@ returns-2 c =
     let room : n ≤ list.length (at-loop .loop .bytes) = omega arith in
     let spelt = whole (at-loop .loop .inv .3) (at-space text n (omega arith) (omega arith) (c .if2 .taken)) in
     record { long = counted n (at-loop .loop .bytes) room spelt; spelt = spelt }
-
-shared-slice-read-bytes : tie.Need-shared-slice-read-bytes Inv-loop μ-loop
-shared-slice-read-bytes c = search needs
-
-array-write-bytes : tie.Need-array-write-bytes Inv-loop μ-loop
-array-write-bytes c = search needs
-
-add-length : tie.Need-add-length Inv-loop μ-loop
-add-length c = search needs
-
-loop-less : tie.Need-loop-less Inv-loop μ-loop
-loop-less c = search needs
 
 loop-again : tie.Need-loop-again Inv-loop μ-loop
 loop-again c =
@@ -107,15 +92,5 @@ pub name-of-spec : {M : Type 1} → statement M
 name-of-spec =
     tie.close
     (tie.spec
-    Inv-loop
-    μ-loop
-    loop-holds
-    returns
-    shared-slice-read-if2
-    returns-2
-    shared-slice-read-bytes
-    array-write-bytes
-    add-length
-    loop-less
-    loop-again
-    returns-3)
+    Inv-loop μ-loop loop-holds returns (λ c. search needs) returns-2 (λ c. search needs) (λ c. search needs)
+    (λ c. search needs) (λ c. search needs) loop-again returns-3)

@@ -78,24 +78,9 @@ returns : tie.Need-returns
 unfolding openAnswer openSlice
 returns c = (rw (lt-ltb _ _ (c .if1 .taken)), (refl, (refl, (refl, (refl, (refl, (refl, (refl, refl))))))))
 
-right-lengths-requires : tie.Need-right-lengths-requires
-right-lengths-requires c κs = search needs
-
 returns-2 : tie.Need-returns-2
 unfolding openAnswer openSlice
 returns-2 c = (rw (le-ltb _ _ (c .before .before .if1 .left), sym (c .before .right-lengths .ensures) ∙ not-true (c .before .right-lengths .result) (c .if2 .taken)), (refl, (refl, (refl, (refl, (refl, (refl, (refl, refl))))))))
-
-read-requires : tie.Need-read-requires
-read-requires c κs = search needs
-
-enum-known-answer : tie.Need-enum-known-answer
-enum-known-answer c = search needs
-
-enum-known-answer-2 : tie.Need-enum-known-answer-2
-enum-known-answer-2 c = search needs
-
-digest-at-requires : tie.Need-digest-at-requires
-digest-at-requires c κs = search needs
 
 -- 07 stands there
 digest-there : (c : tie.After-digest-at) → let t = c .before .before in c .digest-at .result ≡ bytesBelow (rank DIGEST) (commandsOf (reading (batch t)))
@@ -199,28 +184,7 @@ pub open-spec : {M : Type 1} → statement M
 open-spec =
     tie.close
     (tie.spec
-    returns
-    right-lengths-requires
-    returns-2
-    read-requires
-    enum-known-answer
-    enum-known-answer-2
-    digest-at-requires
-    put-section-requires
-    put-section-requires-2
-    put-section-requires-3
-    put-section-requires-4
-    put-rows-requires
-    put-section-requires-5
-    put-section-requires-6
-    put-section-requires-7
-    returns-3
-    same-length
-    same-length-2
-    same-length-3
-    same-length-4
-    same-length-5
-    same-length-6
-    same-length-7
-    same-length-8
-    returns-4)
+    returns (λ c κs. search needs) returns-2 (λ c κs. search needs) (λ c. search needs) (λ c. search needs)
+    (λ c κs. search needs) put-section-requires put-section-requires-2 put-section-requires-3 put-section-requires-4
+    put-rows-requires put-section-requires-5 put-section-requires-6 put-section-requires-7 returns-3 same-length
+    same-length-2 same-length-3 same-length-4 same-length-5 same-length-6 same-length-7 same-length-8 returns-4)

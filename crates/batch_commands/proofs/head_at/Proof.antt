@@ -3,6 +3,7 @@ use borrow.Author.Needs.{needs}
 use borrow.Author.Tests.{lt-ltb, le-ltb, lt-leb, le-leb}
 use native.Mathlib.Omega.{arith}
 use lib.ListN.{drop-of-length-le}
+use Rattle.batch_commands.proofs.Tables.{unknown}
 use Rattle.batch_commands.proofs.Heads.{head-there}
 use Rattle.batch_commands.proofs.head_at.Statement.{statement}
 use Rattle.batch_commands.proofs.head_at.Tie as tie
@@ -10,40 +11,21 @@ use Rattle.batch_commands.proofs.head_at.Tie as tie
 returns : tie.Need-returns
 returns c = rw (drop-of-length-le _ (c .if1 .taken))
 
-shared-slice-read-code : tie.Need-shared-slice-read-code
-shared-slice-read-code c = search needs
-
 cast-code : tie.Need-cast-code
 cast-code c = omega (arith, c .shared-slice-known2 .given (c .before .before .before .args .at))
 
 returns-2 : tie.Need-returns-2
-returns-2 c = let start = c .before .before .before .before in rw (head-there (start .args .batch .now) (start .args .at) (c .before .before .if1 .left), le-leb _ _ (c .if2 .taken))
-
-add-if3 : tie.Need-add-if3
-add-if3 c = search needs
-
-sub-if3 : tie.Need-sub-if3
-sub-if3 c = search needs
-
-width-requires : tie.Need-width-requires
-width-requires c κs = search needs
+returns-2 c = let start = c .before .before .before .before in rw (head-there (start .args .batch .now) (start .args .at) (c .before .before .if1 .left), unknown _, le-leb _ _ (c .if2 .taken))
 
 returns-3 : tie.Need-returns-3
-returns-3 c = let known = c .before .before in let start = known .before .before .before .before in rw (head-there (start .args .batch .now) (start .args .at) (known .before .before .if1 .left), lt-leb _ _ (known .if2 .left), ← (c .before .width .ensures), lt-ltb _ _ (c .if3 .taken))
+returns-3 c = let known = c .before .before in let start = known .before .before .before .before in rw (head-there (start .args .batch .now) (start .args .at) (known .before .before .if1 .left), unknown _, lt-leb _ _ (known .if2 .left), ← (c .before .width .ensures), lt-ltb _ _ (c .if3 .taken))
 
 returns-4 : tie.Need-returns-4
-returns-4 c = let known = c .before .before in let start = known .before .before .before .before in rw (head-there (start .args .batch .now) (start .args .at) (known .before .before .if1 .left), lt-leb _ _ (known .if2 .left), ← (c .before .width .ensures), le-ltb _ _ (c .if3 .left))
+returns-4 c = let known = c .before .before in let start = known .before .before .before .before in rw (head-there (start .args .batch .now) (start .args .at) (known .before .before .if1 .left), unknown _, lt-leb _ _ (known .if2 .left), ← (c .before .width .ensures), le-ltb _ _ (c .if3 .left))
 
 pub head-at-spec : {M : Type 1} → statement M
 head-at-spec =
     tie.close
     (tie.spec
-    returns
-    shared-slice-read-code
-    cast-code
-    returns-2
-    add-if3
-    sub-if3
-    width-requires
-    returns-3
-    returns-4)
+    returns (λ c. search needs) cast-code returns-2 (λ c. search needs) (λ c. search needs) (λ c κs. search needs)
+    returns-3 returns-4)

@@ -47,26 +47,8 @@ returns-8 c = rw (eq-eqb _ 0 (c .before .before .before .before .before .before 
 few : (c : tie.After-height-len) → c .height-len .result ≤ 2
 few c = rw (c .height-len .ensures) (height-few (start (c .before) .args .log2-height))
 
-height-len-requires : tie.Need-height-len-requires
-height-len-requires c κs = search needs
-
 add-once : tie.Need-add-once
 add-once c = omega (arith, few c)
-
-add-without-rows : tie.Need-add-without-rows
-add-without-rows c = omega arith
-
-add-without-rows-2 : tie.Need-add-without-rows-2
-add-without-rows-2 c = omega arith
-
-add-without-rows-3 : tie.Need-add-without-rows-3
-add-without-rows-3 c = omega arith
-
-add-without-rows-4 : tie.Need-add-without-rows-4
-add-without-rows-4 c = omega arith
-
-mul-without-rows : tie.Need-mul-without-rows
-mul-without-rows c = omega arith
 
 add-without-rows-5 : tie.Need-add-without-rows-5
 add-without-rows-5 c = omega (arith, few c)
@@ -94,22 +76,6 @@ pub right-lengths-spec : {M : Type 1} → statement M
 right-lengths-spec =
     tie.close
     (tie.spec
-    returns
-    returns-2
-    returns-3
-    returns-4
-    returns-5
-    returns-6
-    returns-7
-    returns-8
-    height-len-requires
-    add-once
-    add-without-rows
-    add-without-rows-2
-    add-without-rows-3
-    add-without-rows-4
-    mul-without-rows
-    add-without-rows-5
-    returns-9
-    returns-10
-    returns-11)
+    returns returns-2 returns-3 returns-4 returns-5 returns-6 returns-7 returns-8 (λ c κs. search needs) add-once
+    (λ c. omega arith) (λ c. omega arith) (λ c. omega arith) (λ c. omega arith) (λ c. omega arith) add-without-rows-5
+    returns-9 returns-10 returns-11)

@@ -27,29 +27,11 @@ whole c =
 by-judge : (c : tie.After-judge) → let told = c .before .before .before in let args = start told .args in stepOf (args .seen) (drop (args .at) (args .batch .now)) ≡ stepBy (c .judge .result) (told .head .given .0 .0) (args .seen .came) (args .seen .«log2_height»)
 by-judge c = rw (c .judge .ensures) (whole (c .before .before .before) .2)
 
-enum-told : tie.Need-enum-told
-enum-told c = search needs
-
-enum-told-2 : tie.Need-enum-told-2
-enum-told-2 c = search needs
-
-enum-known-head : tie.Need-enum-known-head
-enum-known-head c = search needs
-
 add-judge : tie.Need-add-judge
 add-judge c = let w = whole (c .before .before) in omega arith
 
 judge-requires : tie.Need-judge-requires
 judge-requires c κs = let w = whole (c .before .before) in (w .0, w .1)
-
-enum-known-refusal : tie.Need-enum-known-refusal
-enum-known-refusal c = search needs
-
-enum-told-3 : tie.Need-enum-told-3
-enum-told-3 c = search needs
-
-counts-in-requires : tie.Need-counts-in-requires
-counts-in-requires c κs = search needs
 
 returns : tie.Need-returns
 returns c = let start = c .before .before .before in sym (unknown-step (start .args .seen) (drop (start .args .at) (start .args .batch .now)) (sym (start .pre) ∙ c .enum-told .given .1))
@@ -70,16 +52,5 @@ pub step-at-spec : {M : Type 1} → statement M
 step-at-spec =
     tie.close
     (tie.spec
-    enum-told
-    enum-told-2
-    enum-known-head
-    add-judge
-    judge-requires
-    enum-known-refusal
-    enum-told-3
-    counts-in-requires
-    returns
-    returns-2
-    returns-3
-    returns-4
-    returns-5)
+    (λ c. search needs) (λ c. search needs) (λ c. search needs) add-judge judge-requires (λ c. search needs)
+    (λ c. search needs) (λ c κs. search needs) returns returns-2 returns-3 returns-4 returns-5)

@@ -34,50 +34,26 @@ start7 c = start6 (c .before .before)
 abbrev start8 : tie.After-all-below8 → tie.Start
 start8 c = start7 (c .before .before)
 
-all-below-requires : tie.Need-all-below-requires
-all-below-requires c κs = search needs
-
 returns : tie.Need-returns
 returns c = let test = c .before .all-below in not-all (given (start1 (c .before))) (λ b. clash (test .result) _ (test .ensures) (c .if1 .taken) (b .trace))
-
-all-below-requires-2 : tie.Need-all-below-requires-2
-all-below-requires-2 c κs = search needs
 
 returns-2 : tie.Need-returns-2
 returns-2 c = let test = c .before .all-below2 in not-all (given (start2 (c .before))) (λ b. clash (test .result) _ (test .ensures) (c .if2 .taken) (b .op-stack))
 
-all-below-requires-3 : tie.Need-all-below-requires-3
-all-below-requires-3 c κs = search needs
-
 returns-3 : tie.Need-returns-3
 returns-3 c = let test = c .before .all-below3 in not-all (given (start3 (c .before))) (λ b. clash (test .result) _ (test .ensures) (c .if3 .taken) (b .ram))
-
-all-below-requires-4 : tie.Need-all-below-requires-4
-all-below-requires-4 c κs = search needs
 
 returns-4 : tie.Need-returns-4
 returns-4 c = let test = c .before .all-below4 in not-all (given (start4 (c .before))) (λ b. clash (test .result) _ (test .ensures) (c .if4 .taken) (b .jump-stack))
 
-all-below-requires-5 : tie.Need-all-below-requires-5
-all-below-requires-5 c κs = search needs
-
 returns-5 : tie.Need-returns-5
 returns-5 c = let test = c .before .all-below5 in not-all (given (start5 (c .before))) (λ b. clash (test .result) _ (test .ensures) (c .if5 .taken) (b .sampled))
-
-all-below-requires-6 : tie.Need-all-below-requires-6
-all-below-requires-6 c κs = search needs
 
 returns-6 : tie.Need-returns-6
 returns-6 c = let test = c .before .all-below6 in not-all (given (start6 (c .before))) (λ b. clash (test .result) _ (test .ensures) (c .if6 .taken) (b .digest))
 
-all-below-requires-7 : tie.Need-all-below-requires-7
-all-below-requires-7 c κs = search needs
-
 returns-7 : tie.Need-returns-7
 returns-7 c = let test = c .before .all-below7 in not-all (given (start7 (c .before))) (λ b. clash (test .result) _ (test .ensures) (c .if7 .taken) (b .input))
-
-all-below-requires-8 : tie.Need-all-below-requires-8
-all-below-requires-8 c κs = search needs
 
 returns-8 : tie.Need-returns-8
 returns-8 c =
@@ -94,19 +70,6 @@ pub all-words-below-spec : {M : Type 1} → statement M
 all-words-below-spec =
     tie.close
     (tie.spec
-    all-below-requires
-    returns
-    all-below-requires-2
-    returns-2
-    all-below-requires-3
-    returns-3
-    all-below-requires-4
-    returns-4
-    all-below-requires-5
-    returns-5
-    all-below-requires-6
-    returns-6
-    all-below-requires-7
-    returns-7
-    all-below-requires-8
-    returns-8)
+    (λ c κs. search needs) returns (λ c κs. search needs) returns-2 (λ c κs. search needs) returns-3
+    (λ c κs. search needs) returns-4 (λ c κs. search needs) returns-5 (λ c κs. search needs) returns-6
+    (λ c κs. search needs) returns-7 (λ c κs. search needs) returns-8)

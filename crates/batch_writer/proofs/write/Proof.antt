@@ -43,9 +43,6 @@ asked c = c .before .before .before
 in-range : (c : tie.Else4) → let a = asked (c .before .before) in refusedHeight (rows (of a .trace)) (of a .log2-height) ≡ false
 in-range c = sym (c .before .refused-height .ensures) ∙ c .if4 .left
 
-right-lengths-requires : tie.Need-right-lengths-requires
-right-lengths-requires c κs = search needs
-
 returns : tie.Need-returns
 returns c = let e = wrong-lengths (form (c .before)) (of (c .before)) (size (c .before)) (tested (c .before) ∙ not-true (c .before .right-lengths .result) (c .if1 .taken)) in (e, as-it-was (form (c .before)) (of (c .before)) (start (c .before) .args .batch .now) e)
 
@@ -55,18 +52,12 @@ returns-2 c = let e = no-rows (form (c .before .before)) (of (c .before .before)
 returns-3 : tie.Need-returns-3
 returns-3 c = let e = many-rows (form (c .before .before .before)) (of (c .before .before .before)) (size (c .before .before .before)) (right (c .before .before)) (c .before .if2 .left) (c .if3 .taken) in (e, as-it-was (form (c .before .before .before)) (of (c .before .before .before)) (start (c .before .before .before) .args .batch .now) e)
 
-refused-height-requires : tie.Need-refused-height-requires
-refused-height-requires c κs = search needs
-
 returns-4 : tie.Need-returns-4
 returns-4 c =
     let if3 = c .before .before in
     let a = asked if3 in
     let e = wrong-height (form a) (of a) (size a) (right (if3 .before .before)) (if3 .before .if2 .left) (if3 .if3 .left) (sym (c .before .refused-height .ensures) ∙ c .if4 .taken) in
     (e, as-it-was (form a) (of a) (start a .args .batch .now) e)
-
-all-words-below-requires : tie.Need-all-words-below-requires
-all-words-below-requires c κs = search needs
 
 returns-5 : tie.Need-returns-5
 returns-5 c =
@@ -91,9 +82,6 @@ put-batch-requires c κs =
     let if3 = if4 .before .before in
     ((if3 .if3 .left, small (rows (of (asked if3) .trace)) (of (asked if3) .log2-height) (in-range if4)), right (if3 .before .before))
 
-same-length : tie.Need-same-length
-same-length c = search needs
-
 returns-6 : tie.Need-returns-6
 returns-6 c =
     let put = c .before .before in
@@ -106,14 +94,5 @@ pub write-spec : {M : Type 1} → statement M
 write-spec =
     tie.close
     (tie.spec
-    right-lengths-requires
-    returns
-    returns-2
-    returns-3
-    refused-height-requires
-    returns-4
-    all-words-below-requires
-    returns-5
-    put-batch-requires
-    same-length
-    returns-6)
+    (λ c κs. search needs) returns returns-2 returns-3 (λ c κs. search needs) returns-4 (λ c κs. search needs)
+    returns-5 put-batch-requires (λ c. search needs) returns-6)

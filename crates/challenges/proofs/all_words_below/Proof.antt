@@ -5,14 +5,8 @@ use mathlib.Core.Path.{sym, _∙_}
 use Rattle.challenges.proofs.all_words_below.Statement.{statement}
 use Rattle.challenges.proofs.all_words_below.Tie as tie
 
-all-below-requires : tie.Need-all-below-requires
-all-below-requires c κs = search needs
-
 returns : tie.Need-returns
 returns c = rw (sym (c .before .all-below .ensures) ∙ not-true _ (c .if1 .taken))
-
-all-below-requires-2 : tie.Need-all-below-requires-2
-all-below-requires-2 c κs = search needs
 
 returns-2 : tie.Need-returns-2
 returns-2 c =
@@ -21,9 +15,6 @@ returns-2 c =
       sym (first .before .all-below .ensures) ∙ not-false _ (first .if1 .left),
       sym (c .before .all-below2 .ensures) ∙ not-true _ (c .if2 .taken),
     )
-
-all-below-requires-3 : tie.Need-all-below-requires-3
-all-below-requires-3 c κs = search needs
 
 returns-3 : tie.Need-returns-3
 returns-3 c =
@@ -34,9 +25,6 @@ returns-3 c =
       sym (second .before .all-below2 .ensures) ∙ not-false _ (second .if2 .left),
       sym (c .before .all-below3 .ensures) ∙ not-true _ (c .if3 .taken),
     )
-
-all-below-requires-4 : tie.Need-all-below-requires-4
-all-below-requires-4 c κs = search needs
 
 returns-4 : tie.Need-returns-4
 returns-4 c =
@@ -54,11 +42,5 @@ pub all-words-below-spec : {M : Type 1} → statement M
 all-words-below-spec =
     tie.close
     (tie.spec
-    all-below-requires
-    returns
-    all-below-requires-2
-    returns-2
-    all-below-requires-3
-    returns-3
-    all-below-requires-4
-    returns-4)
+    (λ c κs. search needs) returns (λ c κs. search needs) returns-2 (λ c κs. search needs) returns-3
+    (λ c κs. search needs) returns-4)

@@ -4,19 +4,19 @@ use Rattle.challenges.proofs.right_lengths.Statement.{statement}
 use Rattle.challenges.proofs.right_lengths.Tie as tie
 
 returns : tie.Need-returns
-returns c = simp (ne-eqb _ 177 (c .if1 .taken))
+returns c = simp (ne-eqb _ _ (c .if1 .taken))
 
 returns-2 : tie.Need-returns-2
-returns-2 c = simp (eq-eqb _ 177 (c .before .if1 .left), ne-eqb _ 5 (c .if2 .taken))
+returns-2 c = simp (eq-eqb _ _ (c .before .if1 .left), ne-eqb _ _ (c .if2 .taken))
 
 returns-3 : tie.Need-returns-3
-returns-3 c = simp (eq-eqb _ 177 (c .before .before .if1 .left), eq-eqb _ 5 (c .before .if2 .left), lt-leb _ _ (c .if3 .taken))
+returns-3 c = simp (eq-eqb _ _ (c .before .before .if1 .left), eq-eqb _ _ (c .before .if2 .left), lt-leb _ _ (c .if3 .taken))
 
 returns-4 : tie.Need-returns-4
 returns-4 c =
     simp (
-      eq-eqb _ 177 (c .before .before .before .if1 .left),
-      eq-eqb _ 5 (c .before .before .if2 .left),
+      eq-eqb _ _ (c .before .before .before .if1 .left),
+      eq-eqb _ _ (c .before .before .if2 .left),
       le-leb _ _ (c .before .if3 .left),
       lt-leb _ _ (c .if4 .taken),
     )
@@ -24,21 +24,21 @@ returns-4 c =
 returns-5 : tie.Need-returns-5
 returns-5 c =
     simp (
-      eq-eqb _ 177 (c .before .before .before .before .if1 .left),
-      eq-eqb _ 5 (c .before .before .before .if2 .left),
+      eq-eqb _ _ (c .before .before .before .before .if1 .left),
+      eq-eqb _ _ (c .before .before .before .if2 .left),
       le-leb _ _ (c .before .before .if3 .left),
       le-leb _ _ (c .before .if4 .left),
-      ne-eqb _ 189 (c .if5 .taken),
+      ne-eqb _ _ (c .if5 .taken),
     )
 
 returns-6 : tie.Need-returns-6
 returns-6 c =
     simp (
-      eq-eqb _ 177 (c .before .before .before .before .if1 .left),
-      eq-eqb _ 5 (c .before .before .before .if2 .left),
+      eq-eqb _ _ (c .before .before .before .before .if1 .left),
+      eq-eqb _ _ (c .before .before .before .if2 .left),
       le-leb _ _ (c .before .before .if3 .left),
       le-leb _ _ (c .before .if4 .left),
-      eq-eqb _ 189 (c .if5 .left),
+      eq-eqb _ _ (c .if5 .left),
     )
 
 pub right-lengths-spec : {M : Type 1} → statement M

@@ -8,26 +8,9 @@ use lib.ListN.{length, take, length-append}
 use lib.Seq.{sets, sets-eq, take-at, take-all, length-take-le}
 use Rattle.field.specs.Element.{wordsOf}
 use Rattle.field.specs.declared.XFieldElement.{XFieldElement}
+use Rattle.air.specs.ChallengeId.{RECORD-WORDS, SAMPLED-WORDS}
 use Rattle.challenges.proofs.write_record.Statement.{statement}
 use Rattle.challenges.proofs.write_record.Tie as tie
-
-copy-requires : tie.Need-copy-requires
-copy-requires c κs = search needs
-
-put-challenge-requires : tie.Need-put-challenge-requires
-put-challenge-requires c κs = search needs
-
-put-challenge-requires-2 : tie.Need-put-challenge-requires-2
-put-challenge-requires-2 c κs = search needs
-
-put-challenge-requires-3 : tie.Need-put-challenge-requires-3
-put-challenge-requires-3 c κs = search needs
-
-put-challenge-requires-4 : tie.Need-put-challenge-requires-4
-put-challenge-requires-4 c κs = search needs
-
-same-length : tie.Need-same-length
-same-length c = search needs
 
 -- an element at i, behind the words before
 behind : (i : ℕ) (e : XFieldElement) (l l′ before : List ℕ) → i + 3 ≤ length l → l′ ≡ sets l i (wordsOf e) → take i l ≡ before
@@ -49,21 +32,16 @@ returns c =
     let l2 = at2 .put-challenge2 .last .0 in
     let l3 = at3 .put-challenge3 .last .0 in
     let l4 = at4 .put-challenge4 .last .0 in
-    let known0 = ap (take 177) (at0 .copy .ensures) ∙ take-at (start .args .sampled .now) _ 177 (start .pre .0) in
-    let known1 = behind 177 (start .args .input) l0 l1 _ (omega arith) (at1 .put-challenge .ensures) known0 in
+    let known0 = ap (take SAMPLED-WORDS) (at0 .copy .ensures) ∙ take-at (start .args .sampled .now) _ SAMPLED-WORDS (start .pre .0) in
+    let known1 = behind SAMPLED-WORDS (start .args .input) l0 l1 _ (omega arith) (at1 .put-challenge .ensures) known0 in
     let known2 = behind 180 (start .args .output) l1 l2 _ (omega arith) (at2 .put-challenge2 .ensures) known1 in
     let known3 = behind 183 (start .args .lookup) l2 l3 _ (omega arith) (at3 .put-challenge3 .ensures) known2 in
     let known4 = behind 186 (start .args .digest) l3 l4 _ (omega arith) (at4 .put-challenge4 .ensures) known3 in
-    sym (take-all 189 l4 (omega arith)) ∙ known4
+    sym (take-all RECORD-WORDS l4 (omega arith)) ∙ known4
 
 pub write-record-spec : {M : Type 1} → statement M
 write-record-spec =
     tie.close
     (tie.spec
-    copy-requires
-    put-challenge-requires
-    put-challenge-requires-2
-    put-challenge-requires-3
-    put-challenge-requires-4
-    same-length
-    returns)
+    (λ c κs. search needs) (λ c κs. search needs) (λ c κs. search needs) (λ c κs. search needs) (λ c κs. search needs)
+    (λ c. search needs) returns)

@@ -5,15 +5,6 @@ use Rattle.extend.specs.Extend.{strictAux, strictWork}
 use Rattle.extend.proofs.extend_strict.Statement.{statement}
 use Rattle.extend.proofs.extend_strict.Tie as tie
 
-extended-or-refused-requires : tie.Need-extended-or-refused-requires
-extended-or-refused-requires c κs = search needs
-
-same-length : tie.Need-same-length
-same-length c = search needs
-
-same-length-2 : tie.Need-same-length-2
-same-length-2 c = search needs
-
 returns : tie.Need-returns
 unfolding strictAnswer strictAux strictWork
 returns c =
@@ -21,4 +12,4 @@ returns c =
     (after .0, (rw (← after .0) (after .1 .0), rw (← after .0) (after .1 .1)))
 
 pub extend-strict-spec : {M : Type 1} → statement M
-extend-strict-spec = tie.close (tie.spec extended-or-refused-requires same-length same-length-2 returns)
+extend-strict-spec = tie.close (tie.spec (λ c κs. search needs) (λ c. search needs) (λ c. search needs) returns)

@@ -5,9 +5,6 @@ use mathlib.Core.Path.{sym, _∙_}
 use Rattle.extend_answer.proofs.words_answer.Statement.{statement}
 use Rattle.extend_answer.proofs.words_answer.Tie as tie
 
-all-below-requires : tie.Need-all-below-requires
-all-below-requires c κs = search needs
-
 returns : tie.Need-returns
 returns c = rw (sym (c .before .all-below .ensures) ∙ not-true _ (c .if1 .taken))
 
@@ -15,4 +12,4 @@ returns-2 : tie.Need-returns-2
 returns-2 c = rw (sym (c .before .all-below .ensures) ∙ not-false _ (c .if1 .left))
 
 pub words-answer-spec : {M : Type 1} → statement M
-words-answer-spec = tie.close (tie.spec all-below-requires returns returns-2)
+words-answer-spec = tie.close (tie.spec (λ c κs. search needs) returns returns-2)

@@ -4,12 +4,6 @@ use mathlib.Core.Path.{sym, _∙_}
 use Rattle.field.proofs.both_canonical.Statement.{statement}
 use Rattle.field.proofs.both_canonical.Tie as tie
 
-is-canonical-requires : tie.Need-is-canonical-requires
-is-canonical-requires c κs = search needs
-
-is-canonical-requires-2 : tie.Need-is-canonical-requires-2
-is-canonical-requires-2 c κs = search needs
-
 returns : tie.Need-returns
 returns c = rw (sym (c .before .before .is-canonical .ensures) ∙ c .before .if1 .taken) (c .is-canonical2 .ensures)
 
@@ -17,4 +11,4 @@ returns-2 : tie.Need-returns-2
 returns-2 c = rw (sym (c .before .is-canonical .ensures) ∙ c .if1 .left) (c .if1 .left)
 
 pub both-canonical-spec : {M : Type 1} → statement M
-both-canonical-spec = tie.close (tie.spec is-canonical-requires is-canonical-requires-2 returns returns-2)
+both-canonical-spec = tie.close (tie.spec (λ c κs. search needs) (λ c κs. search needs) returns returns-2)

@@ -7,9 +7,6 @@ use Rattle.field.proofs.Below.{canonical-true}
 use Rattle.field.proofs.element_add.Statement.{statement}
 use Rattle.field.proofs.element_add.Tie as tie
 
-both-canonical-requires : tie.Need-both-canonical-requires
-both-canonical-requires c κs = search needs
-
 returns : tie.Need-returns
 returns c = rw (sym (c .before .both-canonical .ensures) ∙ not-true _ (c .if1 .taken))
 
@@ -22,4 +19,4 @@ returns-2 : tie.Need-returns-2
 returns-2 c = rw (sym (c .before .before .both-canonical .ensures) ∙ not-false _ (c .before .if1 .left), c .element-add .ensures)
 
 pub element-add-spec : {M : Type 1} → statement M
-element-add-spec = tie.close (tie.spec both-canonical-requires returns element-add-requires returns-2)
+element-add-spec = tie.close (tie.spec (λ c κs. search needs) returns element-add-requires returns-2)

@@ -6,14 +6,8 @@ use Rattle.field.proofs.Below.{canonical-true}
 use Rattle.field.proofs.element_inverse.Statement.{statement}
 use Rattle.field.proofs.element_inverse.Tie as tie
 
-is-canonical-requires : tie.Need-is-canonical-requires
-is-canonical-requires c κs = search needs
-
 returns : tie.Need-returns
 returns c = rw (sym (c .before .is-canonical .ensures) ∙ not-true _ (c .if1 .taken))
-
-is-zero-requires : tie.Need-is-zero-requires
-is-zero-requires c κs = search needs
 
 returns-2 : tie.Need-returns-2
 returns-2 c =
@@ -30,9 +24,4 @@ pub element-inverse-spec : {M : Type 1} → statement M
 element-inverse-spec =
     tie.close
     (tie.spec
-    is-canonical-requires
-    returns
-    is-zero-requires
-    returns-2
-    element-inverse-requires
-    returns-3)
+    (λ c κs. search needs) returns (λ c κs. search needs) returns-2 element-inverse-requires returns-3)

@@ -5,17 +5,11 @@ use mathlib.Core.Path.{sym, _∙_}
 use Rattle.field.proofs.element_mul.Statement.{statement}
 use Rattle.field.proofs.element_mul.Tie as tie
 
-both-canonical-requires : tie.Need-both-canonical-requires
-both-canonical-requires c κs = search needs
-
 returns : tie.Need-returns
 returns c = rw (sym (c .before .both-canonical .ensures) ∙ not-true _ (c .if1 .taken))
-
-element-mul-requires : tie.Need-element-mul-requires
-element-mul-requires c κs = search needs
 
 returns-2 : tie.Need-returns-2
 returns-2 c = rw (sym (c .before .before .both-canonical .ensures) ∙ not-false _ (c .before .if1 .left), c .element-mul .ensures)
 
 pub element-mul-spec : {M : Type 1} → statement M
-element-mul-spec = tie.close (tie.spec both-canonical-requires returns element-mul-requires returns-2)
+element-mul-spec = tie.close (tie.spec (λ c κs. search needs) returns (λ c κs. search needs) returns-2)

@@ -8,19 +8,12 @@ use Rattle.field.proofs.element_scale.Tie as tie
 returns : tie.Need-returns
 returns c = simp (le-ltb _ _ (c .if1 .taken))
 
-is-canonical-requires : tie.Need-is-canonical-requires
-is-canonical-requires c κs = search needs
-
 returns-2 : tie.Need-returns-2
 returns-2 c = rw (lt-ltb _ _ (c .before .before .if1 .left), sym (c .before .is-canonical .ensures) ∙ not-true _ (c .if2 .taken))
-
-element-scale-requires : tie.Need-element-scale-requires
-element-scale-requires c κs = search needs
 
 returns-3 : tie.Need-returns-3
 returns-3 c =
     rw (lt-ltb _ _ (c .before .before .before .if1 .left), sym (c .before .before .is-canonical .ensures) ∙ not-false _ (c .before .if2 .left), c .element-scale .ensures)
 
 pub element-scale-spec : {M : Type 1} → statement M
-element-scale-spec =
-    tie.close (tie.spec returns is-canonical-requires returns-2 element-scale-requires returns-3)
+element-scale-spec = tie.close (tie.spec returns (λ c κs. search needs) returns-2 (λ c κs. search needs) returns-3)

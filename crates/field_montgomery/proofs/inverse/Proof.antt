@@ -10,11 +10,8 @@ returns c = simp (le-ltb _ _ (c .if1 .taken))
 returns-2 : tie.Need-returns-2
 returns-2 c = simp (lt-ltb _ _ (c .before .if1 .left), eq-eqb _ _ (c .if2 .taken))
 
-inverse-requires : tie.Need-inverse-requires
-inverse-requires c κs = search needs
-
 returns-3 : tie.Need-returns-3
 returns-3 c = simp (lt-ltb _ _ (c .before .before .if1 .left), ne-eqb _ _ (c .before .if2 .left), c .inverse .ensures)
 
 pub inverse-spec : {M : Type 1} → statement M
-inverse-spec = tie.close (tie.spec returns returns-2 inverse-requires returns-3)
+inverse-spec = tie.close (tie.spec returns returns-2 (λ c κs. search needs) returns-3)

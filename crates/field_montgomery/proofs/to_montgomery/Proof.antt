@@ -7,11 +7,8 @@ use Rattle.field_montgomery.proofs.to_montgomery.Tie as tie
 returns : tie.Need-returns
 returns c = simp (le-ltb _ _ (c .if1 .taken))
 
-to-montgomery-requires : tie.Need-to-montgomery-requires
-to-montgomery-requires c κs = search needs
-
 returns-2 : tie.Need-returns-2
 returns-2 c = simp (lt-ltb _ _ (c .before .if1 .left), c .to-montgomery .ensures)
 
 pub to-montgomery-spec : {M : Type 1} → statement M
-to-montgomery-spec = tie.close (tie.spec returns to-montgomery-requires returns-2)
+to-montgomery-spec = tie.close (tie.spec returns (λ c κs. search needs) returns-2)

@@ -17,18 +17,6 @@ use Rattle.inspect_report.proofs.report.Tie as tie
 opened : (c : tie.After-answer2) → Within (c .answer2 .given .0 .0) 1248 128 128 128 64 64
 opened c = let at-open = c .before .before in within-opened (at-open .before .before .before .args .batch .now) (c .answer2 .given .0 .0) (sym (at-open .open-trace .ensures .0) ∙ c .answer2 .given .1)
 
-open-trace-requires : tie.Need-open-trace-requires
-open-trace-requires c κs = search needs
-
-enum-known-answer : tie.Need-enum-known-answer
-enum-known-answer c = search needs
-
-put-refusal-requires : tie.Need-put-refusal-requires
-put-refusal-requires c κs = search needs
-
-enum-known-answer-2 : tie.Need-enum-known-answer-2
-enum-known-answer-2 c = search needs
-
 mul-end : tie.Need-mul-end
 mul-end c = let few = opened (c .before .before) .in-trace in search needs
 
@@ -71,13 +59,5 @@ pub report-spec : {M : Type 1} → statement M
 report-spec =
     tie.close
     (tie.spec
-    open-trace-requires
-    enum-known-answer
-    put-refusal-requires
-    enum-known-answer-2
-    mul-end
-    array-share-prefix-trace
-    slice-aggregate-put-trace
-    put-trace-requires
-    returns
-    returns-2)
+    (λ c κs. search needs) (λ c. search needs) (λ c κs. search needs) (λ c. search needs) mul-end
+    array-share-prefix-trace slice-aggregate-put-trace put-trace-requires returns returns-2)

@@ -34,12 +34,5 @@ pub instruction-from-byte-spec : {M : Type 1} → statement M
 instruction-from-byte-spec =
     tie.close
     (tie.spec
-    (λ c κs. search needs)
-    (λ c κs. search needs)
-    (λ c κs. search needs)
-    (λ c. search needs)
-    array-read
-    returns
-    returns-2
-    returns-3
-    returns-4)
+    (λ c κs. search needs) (λ c κs. search needs) (λ c κs. search needs) (λ c. search needs) array-read returns
+    returns-2 returns-3 returns-4)

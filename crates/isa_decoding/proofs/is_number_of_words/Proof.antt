@@ -5,7 +5,4 @@ use Rattle.isa_decoding.proofs.is_number_of_words.Tie as tie
 
 pub is-number-of-words-spec : {M : Type 1} → statement M
 is-number-of-words-spec =
-    tie.close
-    (tie.spec
-    (λ c. simp (lt-leb 1 _ (c .if1 .taken)))
-    (λ c. simp (le-leb 1 _ (c .if1 .left))))
+    tie.close (tie.spec (λ c. simp (lt-leb 1 _ (c .if1 .taken))) (λ c. simp (le-leb 1 _ (c .if1 .left))))

@@ -20,9 +20,6 @@ abbrev μ-loop : tie.MeasureT-loop
 loop-holds : tie.Need-loop-holds Inv-loop μ-loop
 loop-holds c = (search needs, refl, search needs, refl)
 
-mul-raise-multiplicity : tie.Need-mul-raise-multiplicity Inv-loop μ-loop
-mul-raise-multiplicity c = search needs
-
 shared-slice-read-raise-multiplicity :
     tie.Need-shared-slice-read-raise-multiplicity Inv-loop μ-loop
 shared-slice-read-raise-multiplicity c = search needs
@@ -34,12 +31,6 @@ raise-multiplicity-requires c κs =
     let d = under-at (length (args .table .now) / 39) (args .differences .now) (at-loop .loop .i) (search needs) (at-loop .loop .inv .2) in
     (omega arith, search needs)
 
-add-i : tie.Need-add-i Inv-loop μ-loop
-add-i c = search needs
-
-loop-less : tie.Need-loop-less Inv-loop μ-loop
-loop-less c = search needs
-
 loop-again : tie.Need-loop-again Inv-loop μ-loop
 loop-again c =
     let at-loop = c .before .before .before .before .before .before in
@@ -49,9 +40,6 @@ loop-again c =
     let d = under-at (length (args .table .now) / 39) ds i (search needs) (at-loop .loop .inv .2) in
     (search needs, search needs, d .1, at-loop .loop .inv .3 ∙ counted-at ds (at-loop .loop .table) i (search needs) ∙ rw (c .before .before .raise-multiplicity .ensures))
 
-same-length : tie.Need-same-length Inv-loop μ-loop
-same-length c = search needs
-
 returns : tie.Need-returns Inv-loop μ-loop
 returns c = sym (c .before .loop .inv .3 ∙ counted-past _ (c .before .loop .table) (c .before .loop .i) (c .loop-test .left))
 
@@ -59,14 +47,5 @@ pub count-differences-spec : {M : Type 1} → statement M
 count-differences-spec =
     tie.close
     (tie.spec
-    Inv-loop
-    μ-loop
-    loop-holds
-    mul-raise-multiplicity
-    shared-slice-read-raise-multiplicity
-    raise-multiplicity-requires
-    add-i
-    loop-less
-    loop-again
-    same-length
-    returns)
+    Inv-loop μ-loop loop-holds (λ c. search needs) shared-slice-read-raise-multiplicity raise-multiplicity-requires
+    (λ c. search needs) (λ c. search needs) loop-again (λ c. search needs) returns)

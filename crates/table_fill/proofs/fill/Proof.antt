@@ -19,15 +19,6 @@ done c = sym (c .before .before .fill-answer .ensures) ∙ c .enum-told .given .
 accept : (c : tie.After-enum-told) → let args = start c .args in Accepted (args .trace .now) (args .op-stack .now) (args .ram .now) (args .jump-stack .now) (args .table .now)
 accept c = let args = start c .args in accepted (args .trace .now) (args .op-stack .now) (args .ram .now) (args .jump-stack .now) (args .table .now) (done c)
 
-fill-answer-requires : tie.Need-fill-answer-requires
-fill-answer-requires c κs = search needs
-
-enum-known-answer : tie.Need-enum-known-answer
-enum-known-answer c = search needs
-
-enum-told : tie.Need-enum-told
-enum-told c = search needs
-
 copy-rows-requires : tie.Need-copy-rows-requires
 copy-rows-requires c κs = let a = accept (c .before) in (a .whole, omega arith)
 
@@ -40,17 +31,11 @@ count-differences-requires-2 c κs = let a = accept (c .before .before .before .
 count-differences-requires-3 : tie.Need-count-differences-requires-3
 count-differences-requires-3 c κs = let a = accept (c .before .before .before .before .before .before .before .before .before .before .before .before .before) in under-more _ _ (omega arith) _ (a .jump-stack-under)
 
-same-length : tie.Need-same-length
-same-length c = search needs
-
 returns : tie.Need-returns
 unfolding fillTable
 returns c =
     let e = sym (c .before .before .before .fill-answer .ensures) ∙ c .before .answer .given .1 in
     (sym e, rw e)
-
-same-length-2 : tie.Need-same-length-2
-same-length-2 c = search needs
 
 returns-2 : tie.Need-returns-2
 unfolding fillTable
@@ -67,14 +52,6 @@ pub fill-spec : {M : Type 1} → statement M
 fill-spec =
     tie.close
     (tie.spec
-    fill-answer-requires
-    enum-known-answer
-    enum-told
-    copy-rows-requires
-    count-differences-requires
-    count-differences-requires-2
-    count-differences-requires-3
-    same-length
-    returns
-    same-length-2
+    (λ c κs. search needs) (λ c. search needs) (λ c. search needs) copy-rows-requires count-differences-requires
+    count-differences-requires-2 count-differences-requires-3 (λ c. search needs) returns (λ c. search needs)
     returns-2)

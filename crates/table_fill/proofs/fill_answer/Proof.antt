@@ -4,21 +4,25 @@ use borrow.Author.Tests.{lt-ltb, le-ltb, eq-eqb, ne-eqb, not-true, not-false}
 use mathlib.Core.Bool.{and-false, or-true}
 use mathlib.Core.Logic.{⊎-elim}
 use mathlib.Core.Path.{_≡_, sym, _∙_}
-use Prim.Native.Nat.{_/_, _%_}
+use Prim.Native.Nat.{ℕ, _/_, _%_}
 use lib.Dec.{eqb}
-use lib.ListN.{length}
-use Rattle.table_rows.specs.Rows.{rows}
-use Rattle.table_fill.specs.Fill.{fillAnswer}
+use lib.ListN.{length, drop}
+use Rattle.refusal.specs.Tests.{first}
+use Rattle.refusal.specs.declared.Answer.{Answer}
+use Rattle.table_fill.specs.Fill.{fillTests, fillAnswer}
 use Rattle.refusal.proofs.Answers.{is-long}
-use Rattle.table_fill.proofs.Accepted.{byRows, byWords, byDifferences}
 use Rattle.table_fill.proofs.fill_answer.Statement.{statement}
 use Rattle.table_fill.proofs.fill_answer.Tie as tie
 
 abbrev start : tie.Else5 → tie.Start
 start c = c .before .before .before .before .before .before .before .before .before .before
 
-to-rows : (c : tie.Else5) → let args = start c .args in fillAnswer (args .trace .now) (args .op-stack .now) (args .ram .now) (args .jump-stack .now) (args .table .now) ≡ byRows (args .trace .now) (args .op-stack .now) (args .ram .now) (args .jump-stack .now) (args .table .now)
-unfolding fillAnswer
+-- the answer past the first n tests
+abbrev past : ℕ → tie.Start → Answer
+past n c =
+    first (drop n (fillTests (c .args .trace .now) (c .args .op-stack .now) (c .args .ram .now) (c .args .jump-stack .now) (c .args .table .now)))
+
+to-rows : (c : tie.Else5) → past 0 (start c) ≡ past 1 (start c)
 to-rows c =
     let args = start c .args in
     rw (
@@ -29,7 +33,7 @@ to-rows c =
       is-long (length (args .jump-stack .now)) ∙ c .if5 .left,
     )
 
-to-words : (c : tie.Else7) → let args = start (c .before .before) .args in fillAnswer (args .trace .now) (args .op-stack .now) (args .ram .now) (args .jump-stack .now) (args .table .now) ≡ byWords (args .trace .now) (args .op-stack .now) (args .ram .now) (args .jump-stack .now)
+to-words : (c : tie.Else7) → past 0 (start (c .before .before)) ≡ past 2 (start (c .before .before))
 to-words c =
     let n = length (start (c .before .before) .args .table .now) / 39 in
     to-rows (c .before .before) ∙ rw (is-long n ∙ le-ltb 4194304 n (c .before .if6 .left), c .if7 .left)
@@ -37,7 +41,7 @@ to-words c =
 abbrev shaped : tie.Else11 → tie.Else7
 shaped c = c .before .before .before .before .before .before .before .before
 
-to-differences : (c : tie.Else11) → let args = start (shaped c .before .before) .args in fillAnswer (args .trace .now) (args .op-stack .now) (args .ram .now) (args .jump-stack .now) (args .table .now) ≡ byDifferences (rows (args .trace .now)) (args .op-stack .now) (args .ram .now) (args .jump-stack .now)
+to-differences : (c : tie.Else11) → past 0 (start (shaped c .before .before)) ≡ past 3 (start (shaped c .before .before))
 to-differences c =
     to-words (shaped c)
     ∙ rw (
@@ -63,6 +67,7 @@ returns c =
     (c .if1 .came)
 
 returns-2 : tie.Need-returns-2
+unfolding fillAnswer
 returns-2 c =
     let n = length (start (c .before) .args .table .now) / 39 in
     sym
@@ -72,19 +77,8 @@ returns-2 c =
     (λ x. rw (x .1 .taken, or-true))
     (c .if6 .came))
 
-all-below-requires : tie.Need-all-below-requires
-all-below-requires c κs = search needs
-
-all-below-requires-2 : tie.Need-all-below-requires-2
-all-below-requires-2 c κs = search needs
-
-all-below-requires-3 : tie.Need-all-below-requires-3
-all-below-requires-3 c κs = search needs
-
-all-below-requires-4 : tie.Need-all-below-requires-4
-all-below-requires-4 c κs = search needs
-
 returns-3 : tie.Need-returns-3
+unfolding fillAnswer
 returns-3 c =
     sym
     (to-words (c .before .before)
@@ -97,16 +91,8 @@ returns-3 c =
     (λ x. rw (sym (x .5 .ensures) ∙ not-true _ (x .6 .taken), and-false))))
     (c .if8 .came))
 
-all-under-requires : tie.Need-all-under-requires
-all-under-requires c κs = search needs
-
-all-under-requires-2 : tie.Need-all-under-requires-2
-all-under-requires-2 c κs = search needs
-
-all-under-requires-3 : tie.Need-all-under-requires-3
-all-under-requires-3 c κs = search needs
-
 returns-4 : tie.Need-returns-4
+unfolding fillAnswer
 returns-4 c =
     sym
     (to-differences (c .before .before)
@@ -118,6 +104,7 @@ returns-4 c =
     (c .if12 .came))
 
 returns-5 : tie.Need-returns-5
+unfolding fillAnswer
 returns-5 c =
     sym
     (to-differences (c .before .before .before .before .before .before)
@@ -131,15 +118,5 @@ pub fill-answer-spec : {M : Type 1} → statement M
 fill-answer-spec =
     tie.close
     (tie.spec
-    returns
-    returns-2
-    all-below-requires
-    all-below-requires-2
-    all-below-requires-3
-    all-below-requires-4
-    returns-3
-    all-under-requires
-    all-under-requires-2
-    all-under-requires-3
-    returns-4
-    returns-5)
+    returns returns-2 (λ c κs. search needs) (λ c κs. search needs) (λ c κs. search needs) (λ c κs. search needs)
+    returns-3 (λ c κs. search needs) (λ c κs. search needs) (λ c κs. search needs) returns-4 returns-5)

@@ -1,8 +1,7 @@
 -- The first padding row put, each other like the row above it.
 use borrow.Author.Needs.{needs}
 use mathlib.Core.Path.{_≡_, refl, sym, _∙_}
-use mathlib.Core.List.{List}
-use Prim.Native.Nat.{ℕ, _+_, _-_, _/_, _≤_, _<_}
+use Prim.Native.Nat.{_+_, _-_, _/_, _≤_, _<_}
 use native.Mathlib.Omega.{arith}
 use lib.ListN.{length, length-set}
 use lib.Seq.{set-set}
@@ -22,21 +21,6 @@ Inv-loop table₀ table-len rows c₀ table c =
 abbrev μ-loop : tie.MeasureT-loop
 μ-loop table₀ table-len rows c₀ table c = rows - c
 
-sub-row : tie.Need-sub-row Inv-loop μ-loop
-sub-row c = search needs
-
-row-requires : tie.Need-row-requires Inv-loop μ-loop
-row-requires c κs = search needs
-
-padding-row-requires : tie.Need-padding-row-requires Inv-loop μ-loop
-padding-row-requires c κs = search needs
-
-put-row-requires : tie.Need-put-row-requires Inv-loop μ-loop
-put-row-requires c κs = search needs
-
-add-c : tie.Need-add-c Inv-loop μ-loop
-add-c c = search needs
-
 loop-holds : tie.Need-loop-holds Inv-loop μ-loop
 loop-holds c =
     let put = c .before .before in
@@ -46,15 +30,6 @@ loop-holds c =
     let n = start .args .table-len in
     let e : n + 1 - 1 ≡ n = omega arith in
     (search needs, search needs, refl, rw e (first-padding table (put .put-row .last .0) (read .row .result) n (search needs) (search needs) (put .put-row .ensures ∙ rw (put .before .padding-row .ensures))), refl)
-
-repeat-row-requires : tie.Need-repeat-row-requires Inv-loop μ-loop
-repeat-row-requires c κs = search needs
-
-add-c-2 : tie.Need-add-c-2 Inv-loop μ-loop
-add-c-2 c = search needs
-
-loop-less : tie.Need-loop-less Inv-loop μ-loop
-loop-less c = search needs
 
 loop-again : tie.Need-loop-again Inv-loop μ-loop
 loop-again c =
@@ -70,9 +45,6 @@ loop-again c =
     let len : length (like first n k) ≡ 39 = length-set (rowAt first n) 0 k ∙ length-row first n (search needs) in
     let put : repeated .repeat-row .last .0 ≡ withRow 39 table k (like first n k) = repeated .repeat-row .ensures ∙ rw (at-loop .loop .inv .3, set-set) in
     (search needs, search needs, search needs, rw (e, put) (row-of-put table k (like first n k) (search needs) len), at-loop .loop .inv .4 ∙ replace-next 39 table (like first n) k (length (start .args .table .now) / 39) (repeated .repeat-row .last .0) (in-loop .loop-test .taken) (search needs) len put)
-
-same-length : tie.Need-same-length Inv-loop μ-loop
-same-length c = search needs
 
 returns : tie.Need-returns Inv-loop μ-loop
 returns c =
@@ -99,18 +71,6 @@ pub copy-down-spec : {M : Type 1} → statement M
 copy-down-spec =
     tie.close
     (tie.spec
-    Inv-loop
-    μ-loop
-    sub-row
-    row-requires
-    padding-row-requires
-    put-row-requires
-    add-c
-    loop-holds
-    repeat-row-requires
-    add-c-2
-    loop-less
-    loop-again
-    same-length
-    returns
-    returns-2)
+    Inv-loop μ-loop (λ c. search needs) (λ c κs. search needs) (λ c κs. search needs) (λ c κs. search needs)
+    (λ c. search needs) loop-holds (λ c κs. search needs) (λ c. search needs) (λ c. search needs) loop-again
+    (λ c. search needs) returns returns-2)

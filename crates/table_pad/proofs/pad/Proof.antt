@@ -17,15 +17,6 @@ done c = sym (c .before .before .pad-answer .ensures) ∙ c .enum-told .given .1
 shape : (c : tie.After-enum-told) → Shaped (start c .args .table .now) (start c .args .table-len)
 shape c = shaped (start c .args .table .now) (start c .args .table-len) (done c)
 
-pad-answer-requires : tie.Need-pad-answer-requires
-pad-answer-requires c κs = search needs
-
-enum-known-answer : tie.Need-enum-known-answer
-enum-known-answer c = search needs
-
-enum-told : tie.Need-enum-told
-enum-told c = search needs
-
 sub-padding-rows : tie.Need-sub-padding-rows
 sub-padding-rows c = let s = shape c in omega arith
 
@@ -35,17 +26,11 @@ copy-down-requires c κs = let s = shape (c .before) in (s .some, s .within)
 raise-multiplicity-requires : tie.Need-raise-multiplicity-requires
 raise-multiplicity-requires c κs = let s = shape (c .before .before .before .before .before) in (omega arith, omega arith)
 
-same-length : tie.Need-same-length
-same-length c = search needs
-
 returns : tie.Need-returns
 unfolding padTable
 returns c =
     let e = sym (c .before .before .before .pad-answer .ensures) ∙ c .before .answer .given .1 in
     (sym e, rw e)
-
-same-length-2 : tie.Need-same-length-2
-same-length-2 c = search needs
 
 returns-2 : tie.Need-returns-2
 unfolding padTable padded
@@ -59,13 +44,5 @@ pub pad-spec : {M : Type 1} → statement M
 pad-spec =
     tie.close
     (tie.spec
-    pad-answer-requires
-    enum-known-answer
-    enum-told
-    sub-padding-rows
-    copy-down-requires
-    raise-multiplicity-requires
-    same-length
-    returns
-    same-length-2
-    returns-2)
+    (λ c κs. search needs) (λ c. search needs) (λ c. search needs) sub-padding-rows copy-down-requires
+    raise-multiplicity-requires (λ c. search needs) returns (λ c. search needs) returns-2)

@@ -1,17 +1,15 @@
 -- The tests in order.
 use borrow.Author.Needs.{needs}
 use borrow.Author.Tests.{lt-ltb, le-ltb, eq-eqb, ne-eqb, ltb-false}
-use mathlib.Core.Bool.{cond, not, or-true}
+use mathlib.Core.Bool.{or-true}
 use mathlib.Core.Logic.{⊎-elim}
 use mathlib.Core.Path.{_≡_, sym, _∙_}
 use Prim.Native.Nat.{_*_, _/_, _%_}
 use native.Mathlib.Omega.{arith}
-use lib.ListN.{length, take}
+use lib.ListN.{length, drop}
 use lib.Seq.{length-take-le}
-use Rattle.field_base.specs.Words.{allBelow}
-use Rattle.refusal.specs.declared.Answer.the-variants.{Done, Refused}
-use Rattle.refusal.specs.declared.Refusal.the-variants.{WordNotBelowP}
-use Rattle.table_pad.specs.Pad.{padAnswer}
+use Rattle.refusal.specs.Tests.{first}
+use Rattle.table_pad.specs.Pad.{padTests, padAnswer}
 use Rattle.refusal.proofs.Answers.{is-long}
 use Rattle.table_pad.proofs.pad_answer.Statement.{statement}
 use Rattle.table_pad.proofs.pad_answer.Tie as tie
@@ -19,7 +17,7 @@ use Rattle.table_pad.proofs.pad_answer.Tie as tie
 abbrev start : tie.Else5 → tie.Start
 start c = c .before .before .before .before .before .before
 
-words-decide : (c : tie.Else5) → let args = start c .args in padAnswer (args .table .now) (args .table-len) ≡ cond (not (allBelow (take (args .table-len * 39) (args .table .now)))) (Refused WordNotBelowP) Done
+words-decide : (c : tie.Else5) → let args = start c .args in padAnswer (args .table .now) (args .table-len) ≡ first (drop 2 (padTests (args .table .now) (args .table-len)))
 unfolding padAnswer
 words-decide c =
     let n = length (start c .args .table .now) in
@@ -55,9 +53,6 @@ mul-end c = omega (arith, ltb-false)
 slice-aggregate-all-below : tie.Need-slice-aggregate-all-below
 slice-aggregate-all-below c = sym (length-take-le _ _ (omega (arith, ltb-false)))
 
-all-below-requires : tie.Need-all-below-requires
-all-below-requires c κs = search needs
-
 returns-3 : tie.Need-returns-3
 returns-3 c = sym (words-decide (c .before .before .before) ∙ rw (sym (c .before .all-below .ensures), c .if6 .taken))
 
@@ -68,10 +63,4 @@ pub pad-answer-spec : {M : Type 1} → statement M
 pad-answer-spec =
     tie.close
     (tie.spec
-    returns
-    returns-2
-    mul-end
-    slice-aggregate-all-below
-    all-below-requires
-    returns-3
-    returns-4)
+    returns returns-2 mul-end slice-aggregate-all-below (λ c κs. search needs) returns-3 returns-4)

@@ -5,15 +5,6 @@ use Rattle.tealbobbin_answers.specs.Field.{baseNumberInto, baseInto}
 use Rattle.tealbobbin.proofs.tealbobbin_base_add.Statement.{statement}
 use Rattle.tealbobbin.proofs.tealbobbin_base_add.Tie as tie
 
-add-requires : tie.Need-add-requires
-add-requires c κs = search needs
-
-put-base-requires : tie.Need-put-base-requires
-put-base-requires c κs = search needs
-
-same-length : tie.Need-same-length
-same-length c = search needs
-
 returns : tie.Need-returns
 returns c =
     let put = c .before .before .put-base .ensures in
@@ -23,4 +14,4 @@ returns c =
 
 pub tealbobbin-base-add-spec : {M : Type 1} → statement M
 tealbobbin-base-add-spec =
-    tie.close (tie.spec add-requires put-base-requires same-length returns)
+    tie.close (tie.spec (λ c κs. search needs) (λ c κs. search needs) (λ c. search needs) returns)

@@ -9,15 +9,6 @@ use Rattle.tealbobbin.proofs.tealbobbin_check_at.Tie as tie
 returns : tie.Need-returns
 returns c = let e = ne-eqb _ 3 (c .if1 .taken) in (rw e, rw e)
 
-check-requires : tie.Need-check-requires
-check-requires c κs = search needs
-
-put-place-requires : tie.Need-put-place-requires
-put-place-requires c κs = search needs
-
-same-length : tie.Need-same-length
-same-length c = search needs
-
 returns-2 : tie.Need-returns-2
 returns-2 c =
     let put = c .before .before in
@@ -30,4 +21,5 @@ returns-2 c =
     )
 
 pub tealbobbin-check-at-spec : {M : Type 1} → statement M
-tealbobbin-check-at-spec = tie.close (tie.spec returns check-requires put-place-requires same-length returns-2)
+tealbobbin-check-at-spec =
+    tie.close (tie.spec returns (λ c κs. search needs) (λ c κs. search needs) (λ c. search needs) returns-2)

@@ -5,15 +5,6 @@ use Rattle.tealbobbin_answers.specs.Decode.{decodeNumberInto, decodeInto}
 use Rattle.tealbobbin.proofs.tealbobbin_decode.Statement.{statement}
 use Rattle.tealbobbin.proofs.tealbobbin_decode.Tie as tie
 
-decode-requires : tie.Need-decode-requires
-decode-requires c κs = search needs
-
-put-decoded-requires : tie.Need-put-decoded-requires
-put-decoded-requires c κs = search needs
-
-same-length : tie.Need-same-length
-same-length c = search needs
-
 returns : tie.Need-returns
 returns c =
     let put = c .before .before .put-decoded .ensures in
@@ -23,4 +14,4 @@ returns c =
 
 pub tealbobbin-decode-spec : {M : Type 1} → statement M
 tealbobbin-decode-spec =
-    tie.close (tie.spec decode-requires put-decoded-requires same-length returns)
+    tie.close (tie.spec (λ c κs. search needs) (λ c κs. search needs) (λ c. search needs) returns)

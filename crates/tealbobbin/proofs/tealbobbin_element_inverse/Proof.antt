@@ -10,18 +10,6 @@ use Rattle.tealbobbin.proofs.tealbobbin_element_inverse.Tie as tie
 returns : tie.Need-returns
 returns c = let e = ne-eqb _ 3 (c .if1 .taken) in (rw e, rw e)
 
-element-at-requires : tie.Need-element-at-requires
-element-at-requires c κs = search needs
-
-element-inverse-requires : tie.Need-element-inverse-requires
-element-inverse-requires c κs = search needs
-
-put-element-requires : tie.Need-put-element-requires
-put-element-requires c κs = search needs
-
-same-length : tie.Need-same-length
-same-length c = search needs
-
 returns-2 : tie.Need-returns-2
 returns-2 c =
     let c1 = c .before .before .before .before .before in
@@ -35,9 +23,4 @@ pub tealbobbin-element-inverse-spec : {M : Type 1} → statement M
 tealbobbin-element-inverse-spec =
     tie.close
     (tie.spec
-    returns
-    element-at-requires
-    element-inverse-requires
-    put-element-requires
-    same-length
-    returns-2)
+    returns (λ c κs. search needs) (λ c κs. search needs) (λ c κs. search needs) (λ c. search needs) returns-2)

@@ -16,21 +16,6 @@ returns-2 c =
     let f = ne-eqb _ 3 (c .if2 .taken) in
     (rw (e, f), rw (e, f))
 
-element-at-requires : tie.Need-element-at-requires
-element-at-requires c κs = search needs
-
-element-at-requires-2 : tie.Need-element-at-requires-2
-element-at-requires-2 c κs = search needs
-
-element-mul-requires : tie.Need-element-mul-requires
-element-mul-requires c κs = search needs
-
-put-element-requires : tie.Need-put-element-requires
-put-element-requires c κs = search needs
-
-same-length : tie.Need-same-length
-same-length c = search needs
-
 returns-3 : tie.Need-returns-3
 returns-3 c =
     let c1 = c .before .before .before .before .before .before in
@@ -47,11 +32,5 @@ pub tealbobbin-element-mul-spec : {M : Type 1} → statement M
 tealbobbin-element-mul-spec =
     tie.close
     (tie.spec
-    returns
-    returns-2
-    element-at-requires
-    element-at-requires-2
-    element-mul-requires
-    put-element-requires
-    same-length
-    returns-3)
+    returns returns-2 (λ c κs. search needs) (λ c κs. search needs) (λ c κs. search needs) (λ c κs. search needs)
+    (λ c. search needs) returns-3)

@@ -5,15 +5,6 @@ use Rattle.tealbobbin_answers.specs.Field.{baseNumberInto, baseInto}
 use Rattle.tealbobbin.proofs.tealbobbin_montgomery_inverse.Statement.{statement}
 use Rattle.tealbobbin.proofs.tealbobbin_montgomery_inverse.Tie as tie
 
-inverse-requires : tie.Need-inverse-requires
-inverse-requires c κs = search needs
-
-put-base-requires : tie.Need-put-base-requires
-put-base-requires c κs = search needs
-
-same-length : tie.Need-same-length
-same-length c = search needs
-
 returns : tie.Need-returns
 returns c =
     let put = c .before .before .put-base .ensures in
@@ -23,4 +14,4 @@ returns c =
 
 pub tealbobbin-montgomery-inverse-spec : {M : Type 1} → statement M
 tealbobbin-montgomery-inverse-spec =
-    tie.close (tie.spec inverse-requires put-base-requires same-length returns)
+    tie.close (tie.spec (λ c κs. search needs) (λ c κs. search needs) (λ c. search needs) returns)

@@ -38,39 +38,6 @@ returns : tie.Need-returns
 unfolding openInto openSlice
 returns c = let e = ne-eqb _ 7 (c .if1 .taken) in (rw e, rw e)
 
-open-requires : tie.Need-open-requires
-open-requires c κs = search needs
-
-put-counts-requires : tie.Need-put-counts-requires
-put-counts-requires c κs = search needs
-
-same-length : tie.Need-same-length
-same-length c = omega arith
-
-same-length-2 : tie.Need-same-length-2
-same-length-2 c = omega arith
-
-same-length-3 : tie.Need-same-length-3
-same-length-3 c = omega arith
-
-same-length-4 : tie.Need-same-length-4
-same-length-4 c = omega arith
-
-same-length-5 : tie.Need-same-length-5
-same-length-5 c = omega arith
-
-same-length-6 : tie.Need-same-length-6
-same-length-6 c = omega arith
-
-same-length-7 : tie.Need-same-length-7
-same-length-7 c = omega arith
-
-same-length-8 : tie.Need-same-length-8
-same-length-8 c = omega arith
-
-same-length-9 : tie.Need-same-length-9
-same-length-9 c = omega arith
-
 returns-2 : tie.Need-returns-2
 returns-2 c =
     let put = c .before .before .put-counts .ensures in
@@ -98,16 +65,6 @@ pub tealbobbin-open-spec : {M : Type 1} → statement M
 tealbobbin-open-spec =
     tie.close
     (tie.spec
-    returns
-    open-requires
-    put-counts-requires
-    same-length
-    same-length-2
-    same-length-3
-    same-length-4
-    same-length-5
-    same-length-6
-    same-length-7
-    same-length-8
-    same-length-9
+    returns (λ c κs. search needs) (λ c κs. search needs) (λ c. omega arith) (λ c. omega arith) (λ c. omega arith)
+    (λ c. omega arith) (λ c. omega arith) (λ c. omega arith) (λ c. omega arith) (λ c. omega arith) (λ c. omega arith)
     returns-2)

@@ -5,19 +5,10 @@ use Rattle.refusal.specs.Number.{answerNumberOf}
 use Rattle.tealbobbin.proofs.tealbobbin_pad.Statement.{statement}
 use Rattle.tealbobbin.proofs.tealbobbin_pad.Tie as tie
 
-pad-requires : tie.Need-pad-requires
-pad-requires c κs = search needs
-
-answer-number-requires : tie.Need-answer-number-requires
-answer-number-requires c κs = search needs
-
-same-length : tie.Need-same-length
-same-length c = search needs
-
 returns : tie.Need-returns
 returns c =
     let done = c .before .before .before .pad .ensures in
     (c .answer-number .ensures ∙ ap answerNumberOf (done .0), done .1)
 
 pub tealbobbin-pad-spec : {M : Type 1} → statement M
-tealbobbin-pad-spec = tie.close (tie.spec pad-requires answer-number-requires same-length returns)
+tealbobbin-pad-spec = tie.close (tie.spec (λ c κs. search needs) (λ c κs. search needs) (λ c. search needs) returns)

@@ -5,15 +5,6 @@ use Rattle.refusal.specs.Number.{answerNumberOf}
 use Rattle.tealbobbin.proofs.tealbobbin_scan_products.Statement.{statement}
 use Rattle.tealbobbin.proofs.tealbobbin_scan_products.Tie as tie
 
-scan-products-requires : tie.Need-scan-products-requires
-scan-products-requires c κs = search needs
-
-answer-number-requires : tie.Need-answer-number-requires
-answer-number-requires c κs = search needs
-
-same-length : tie.Need-same-length
-same-length c = search needs
-
 returns : tie.Need-returns
 returns c =
     let scanned = c .before .before .before .scan-products .ensures in
@@ -21,4 +12,4 @@ returns c =
 
 pub tealbobbin-scan-products-spec : {M : Type 1} → statement M
 tealbobbin-scan-products-spec =
-    tie.close (tie.spec scan-products-requires answer-number-requires same-length returns)
+    tie.close (tie.spec (λ c κs. search needs) (λ c κs. search needs) (λ c. search needs) returns)

@@ -5,15 +5,6 @@ use Rattle.refusal.specs.Number.{answerNumberOf}
 use Rattle.tealbobbin.proofs.tealbobbin_terminals.Statement.{statement}
 use Rattle.tealbobbin.proofs.tealbobbin_terminals.Tie as tie
 
-terminals-requires : tie.Need-terminals-requires
-terminals-requires c κs = search needs
-
-answer-number-requires : tie.Need-answer-number-requires
-answer-number-requires c κs = search needs
-
-same-length : tie.Need-same-length
-same-length c = search needs
-
 returns : tie.Need-returns
 returns c =
     let done = c .before .before .before .terminals .ensures in
@@ -21,4 +12,4 @@ returns c =
 
 pub tealbobbin-terminals-spec : {M : Type 1} → statement M
 tealbobbin-terminals-spec =
-    tie.close (tie.spec terminals-requires answer-number-requires same-length returns)
+    tie.close (tie.spec (λ c κs. search needs) (λ c κs. search needs) (λ c. search needs) returns)

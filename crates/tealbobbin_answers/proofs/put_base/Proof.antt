@@ -8,21 +8,6 @@ use Rattle.tealbobbin_answers.proofs.put_base.Tie as tie
 returns : tie.Need-returns
 returns c = let e = ne-eqb _ 1 (c .if1 .taken) in (rw e, rw e)
 
-enum-known-answer : tie.Need-enum-known-answer
-enum-known-answer c = search needs
-
-slice-write-out : tie.Need-slice-write-out
-slice-write-out c = search needs
-
-enum-known-answer-2 : tie.Need-enum-known-answer-2
-enum-known-answer-2 c = search needs
-
-number-requires : tie.Need-number-requires
-number-requires c κs = search needs
-
-same-length : tie.Need-same-length
-same-length c = search needs
-
 returns-2 : tie.Need-returns-2
 returns-2 c =
     let e = eq-eqb _ 1 (c .before .before .before .if1 .left) in
@@ -37,11 +22,5 @@ pub put-base-spec : {M : Type 1} → statement M
 put-base-spec =
     tie.close
     (tie.spec
-    returns
-    enum-known-answer
-    slice-write-out
-    enum-known-answer-2
-    number-requires
-    same-length
-    returns-2
-    returns-3)
+    returns (λ c. search needs) (λ c. search needs) (λ c. search needs) (λ c κs. search needs) (λ c. search needs)
+    returns-2 returns-3)

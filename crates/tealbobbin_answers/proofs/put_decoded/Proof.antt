@@ -12,34 +12,10 @@ use Rattle.tealbobbin_answers.proofs.put_decoded.Tie as tie
 returns : tie.Need-returns
 returns c = let e = ne-eqb _ 2 (c .if1 .taken) in (rw e, rw e)
 
-enum-known-answer : tie.Need-enum-known-answer
-enum-known-answer c = search needs
-
-decoded-words-requires : tie.Need-decoded-words-requires
-decoded-words-requires c κs = search needs
-
-array-read-out : tie.Need-array-read-out
-array-read-out c = search needs
-
-slice-write-out : tie.Need-slice-write-out
-slice-write-out c = search needs
-
-array-read-out-2 : tie.Need-array-read-out-2
-array-read-out-2 c = search needs
-
 slice-write-out-2 : tie.Need-slice-write-out-2
 slice-write-out-2 c =
     let out = c .before .before .before .before .before .before .args .out .now in
     omega (arith, length-set out 0 (getD (c .decoded-words .result) 0 0))
-
-enum-known-answer-2 : tie.Need-enum-known-answer-2
-enum-known-answer-2 c = search needs
-
-number-requires : tie.Need-number-requires
-number-requires c κs = search needs
-
-same-length : tie.Need-same-length
-same-length c = search needs
 
 returns-2 : tie.Need-returns-2
 returns-2 c =
@@ -63,15 +39,5 @@ pub put-decoded-spec : {M : Type 1} → statement M
 put-decoded-spec =
     tie.close
     (tie.spec
-    returns
-    enum-known-answer
-    decoded-words-requires
-    array-read-out
-    slice-write-out
-    array-read-out-2
-    slice-write-out-2
-    enum-known-answer-2
-    number-requires
-    same-length
-    returns-2
-    returns-3)
+    returns (λ c. search needs) (λ c κs. search needs) (λ c. search needs) (λ c. search needs) (λ c. search needs)
+    slice-write-out-2 (λ c. search needs) (λ c κs. search needs) (λ c. search needs) returns-2 returns-3)

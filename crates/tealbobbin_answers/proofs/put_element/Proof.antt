@@ -9,21 +9,6 @@ use Rattle.tealbobbin_answers.proofs.put_element.Tie as tie
 returns : tie.Need-returns
 returns c = let e = ne-eqb _ 3 (c .if1 .taken) in (rw e, rw e)
 
-enum-known-answer : tie.Need-enum-known-answer
-enum-known-answer c = search needs
-
-put-element-requires : tie.Need-put-element-requires
-put-element-requires c κs = search needs
-
-enum-known-answer-2 : tie.Need-enum-known-answer-2
-enum-known-answer-2 c = search needs
-
-number-requires : tie.Need-number-requires
-number-requires c κs = search needs
-
-same-length : tie.Need-same-length
-same-length c = search needs
-
 returns-2 : tie.Need-returns-2
 returns-2 c =
     let c1 = c .before .before .before .before .before in
@@ -39,11 +24,5 @@ pub put-element-spec : {M : Type 1} → statement M
 put-element-spec =
     tie.close
     (tie.spec
-    returns
-    enum-known-answer
-    put-element-requires
-    enum-known-answer-2
-    number-requires
-    same-length
-    returns-2
-    returns-3)
+    returns (λ c. search needs) (λ c κs. search needs) (λ c. search needs) (λ c κs. search needs) (λ c. search needs)
+    returns-2 returns-3)

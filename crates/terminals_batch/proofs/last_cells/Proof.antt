@@ -17,63 +17,6 @@ module _ {A : Type 0} (f : List ℕ → List ℕ → List ℕ → List ℕ → L
   eight : {a a′ b b′ c c′ d d′ e e′ g g′ h h′ i i′ : List ℕ} → a ≡ a′ → b ≡ b′ → c ≡ c′ → d ≡ d′ → e ≡ e′ → g ≡ g′ → h ≡ h′ → i ≡ i′ → f a b c d e g h i ≡ f a′ b′ c′ d′ e′ g′ h′ i′
   eight p q r s t u v w = cc
 
-slice-aggregate-open : tie.Need-slice-aggregate-open
-slice-aggregate-open c = search needs
-
-slice-aggregate-open-2 : tie.Need-slice-aggregate-open-2
-slice-aggregate-open-2 c = search needs
-
-slice-aggregate-open-3 : tie.Need-slice-aggregate-open-3
-slice-aggregate-open-3 c = search needs
-
-slice-aggregate-open-4 : tie.Need-slice-aggregate-open-4
-slice-aggregate-open-4 c = search needs
-
-slice-aggregate-open-5 : tie.Need-slice-aggregate-open-5
-slice-aggregate-open-5 c = search needs
-
-slice-aggregate-open-6 : tie.Need-slice-aggregate-open-6
-slice-aggregate-open-6 c = search needs
-
-slice-aggregate-open-7 : tie.Need-slice-aggregate-open-7
-slice-aggregate-open-7 c = search needs
-
-slice-aggregate-open-8 : tie.Need-slice-aggregate-open-8
-slice-aggregate-open-8 c = search needs
-
-open-requires : tie.Need-open-requires
-open-requires c κs = search needs
-
-enum-known-answer : tie.Need-enum-known-answer
-enum-known-answer c = search needs
-
-enum-known-answer-2 : tie.Need-enum-known-answer-2
-enum-known-answer-2 c = search needs
-
-slice-aggregate-opened-cells : tie.Need-slice-aggregate-opened-cells
-slice-aggregate-opened-cells c = search needs
-
-slice-aggregate-opened-cells-2 : tie.Need-slice-aggregate-opened-cells-2
-slice-aggregate-opened-cells-2 c = search needs
-
-slice-aggregate-opened-cells-3 : tie.Need-slice-aggregate-opened-cells-3
-slice-aggregate-opened-cells-3 c = search needs
-
-slice-aggregate-opened-cells-4 : tie.Need-slice-aggregate-opened-cells-4
-slice-aggregate-opened-cells-4 c = search needs
-
-slice-aggregate-opened-cells-5 : tie.Need-slice-aggregate-opened-cells-5
-slice-aggregate-opened-cells-5 c = search needs
-
-slice-aggregate-opened-cells-6 : tie.Need-slice-aggregate-opened-cells-6
-slice-aggregate-opened-cells-6 c = search needs
-
-slice-aggregate-opened-cells-7 : tie.Need-slice-aggregate-opened-cells-7
-slice-aggregate-opened-cells-7 c = search needs
-
-slice-aggregate-opened-cells-8 : tie.Need-slice-aggregate-opened-cells-8
-slice-aggregate-opened-cells-8 c = search needs
-
 opened-cells-requires : tie.Need-opened-cells-requires
 opened-cells-requires c κs =
     let told = c .before .before .before .before .before .before .before .before .before .before in
@@ -125,25 +68,8 @@ pub last-cells-spec : {M : Type 1} → statement M
 last-cells-spec =
     tie.close
     (tie.spec
-    slice-aggregate-open
-    slice-aggregate-open-2
-    slice-aggregate-open-3
-    slice-aggregate-open-4
-    slice-aggregate-open-5
-    slice-aggregate-open-6
-    slice-aggregate-open-7
-    slice-aggregate-open-8
-    open-requires
-    enum-known-answer
-    enum-known-answer-2
-    slice-aggregate-opened-cells
-    slice-aggregate-opened-cells-2
-    slice-aggregate-opened-cells-3
-    slice-aggregate-opened-cells-4
-    slice-aggregate-opened-cells-5
-    slice-aggregate-opened-cells-6
-    slice-aggregate-opened-cells-7
-    slice-aggregate-opened-cells-8
-    opened-cells-requires
-    returns
+    (λ c. search needs) (λ c. search needs) (λ c. search needs) (λ c. search needs) (λ c. search needs)
+    (λ c. search needs) (λ c. search needs) (λ c. search needs) (λ c κs. search needs) (λ c. search needs)
+    (λ c. search needs) (λ c. search needs) (λ c. search needs) (λ c. search needs) (λ c. search needs)
+    (λ c. search needs) (λ c. search needs) (λ c. search needs) (λ c. search needs) opened-cells-requires returns
     returns-2)

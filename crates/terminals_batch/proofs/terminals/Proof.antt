@@ -39,15 +39,6 @@ returns : tie.Need-returns
 unfolding terminalsInto cellsInto
 returns c = let e = ne-eqb (length (c .before .before .before .args .cells .now)) 33 (c .if1 .taken) in (rw e, rw e)
 
-last-cells-requires : tie.Need-last-cells-requires
-last-cells-requires c κs = search needs
-
-enum-known-answer : tie.Need-enum-known-answer
-enum-known-answer c = search needs
-
-enum-told : tie.Need-enum-told
-enum-told c = search needs
-
 slice-aggregate-copy-row : tie.Need-slice-aggregate-copy-row
 slice-aggregate-copy-row c = sym (row (c .before))
 
@@ -62,9 +53,6 @@ returns-2 c =
     let e = eq-eqb (length (there .before .before .before .before .before .args .cells .now)) 33 (long (there .before .before)) in
     (rw (e, refused), rw (e, refused))
 
-same-length : tie.Need-same-length
-same-length c = search needs
-
 returns-3 : tie.Need-returns-3
 unfolding terminalsInto cellsInto
 returns-3 c =
@@ -77,12 +65,5 @@ pub terminals-spec : {M : Type 1} → statement M
 terminals-spec =
     tie.close
     (tie.spec
-    returns
-    last-cells-requires
-    enum-known-answer
-    enum-told
-    slice-aggregate-copy-row
-    copy-row-requires
-    returns-2
-    same-length
-    returns-3)
+    returns (λ c κs. search needs) (λ c. search needs) (λ c. search needs) slice-aggregate-copy-row copy-row-requires
+    returns-2 (λ c. search needs) returns-3)

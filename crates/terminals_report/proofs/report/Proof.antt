@@ -11,21 +11,6 @@ use borrow.Author.Needs.{needs}
 use Rattle.terminals_report.proofs.report.Statement.{statement}
 use Rattle.terminals_report.proofs.report.Tie as tie
 
-last-cells-requires : tie.Need-last-cells-requires
-last-cells-requires c κs = search needs
-
-enum-known-refusal : tie.Need-enum-known-refusal
-enum-known-refusal c = search needs
-
-put-refusal-requires : tie.Need-put-refusal-requires
-put-refusal-requires c κs = search needs
-
-enum-told : tie.Need-enum-told
-enum-told c = search needs
-
-put-lines-requires : tie.Need-put-lines-requires
-put-lines-requires c κs = search needs
-
 returns : tie.Need-returns
 unfolding terminalsText
 returns c =
@@ -52,10 +37,5 @@ pub report-spec : {M : Type 1} → statement M
 report-spec =
     tie.close
     (tie.spec
-    last-cells-requires
-    enum-known-refusal
-    put-refusal-requires
-    enum-told
-    put-lines-requires
-    returns
-    returns-2)
+    (λ c κs. search needs) (λ c. search needs) (λ c κs. search needs) (λ c. search needs) (λ c κs. search needs)
+    returns returns-2)

@@ -7,9 +7,6 @@ use Rattle.batch_commands.proofs.unchecked.announced.Tie as tie
 half-at-requires : tie.Need-half-at-requires
 half-at-requires c κs = rw (c .if1 .taken) at (c .before .before .pre .1)
 
-cast-result : tie.Need-cast-result
-cast-result c = search needs
-
 returns : tie.Need-returns
 returns c = rw (c .before .if1 .taken) (c .half-at .ensures)
 
@@ -17,4 +14,4 @@ returns-2 : tie.Need-returns-2
 returns-2 c = rw (ne-eqb _ 1 (c .if1 .left))
 
 pub announced-spec : {M : Type 1} → statement M
-announced-spec = tie.close (tie.spec half-at-requires cast-result returns returns-2)
+announced-spec = tie.close (tie.spec half-at-requires (λ c. search needs) returns returns-2)

@@ -1,9 +1,10 @@
--- An arm for each command; the last is for 0A.
+-- An arm for each command.
 use borrow.Author.Needs.{needs}
+use mathlib.Core.Logic.{⊎-elim}
 use mathlib.Core.List.{List}
 use Prim.Native.Nat.{ℕ}
 use lib.ListN.{getD}
-use Rattle.batch_commands.proofs.Tables.{arm, last}
+use Rattle.batch_commands.proofs.Tables.{arm, no-other}
 use Rattle.batch_commands.proofs.unchecked.count.Statement.{statement}
 use Rattle.batch_commands.proofs.unchecked.count.Tie as tie
 
@@ -14,19 +15,9 @@ pub count-spec : {M : Type 1} → statement M
 count-spec =
     tie.close
     (tie.spec
-    (λ c. search needs)
-    (λ c. search needs)
-    (λ c. search needs)
-    (λ c. search needs)
-    (λ c. search needs)
-    (λ c. search needs)
-    (λ c. search needs)
-    (λ c. search needs)
-    (λ c. search needs)
-    (λ c. search needs)
-    (λ c. search needs)
-    (λ c. search needs)
-    (λ c. arm (counted (c .before .args .t1)) (c .match .keys1))
+    (λ c. search needs) (λ c. search needs) (λ c. search needs) (λ c. search needs) (λ c. search needs)
+    (λ c. search needs) (λ c. search needs) (λ c. search needs) (λ c. search needs) (λ c. search needs)
+    (λ c. search needs) (λ c. search needs) (λ c. arm (counted (c .before .args .t1)) (c .match .keys1))
     (λ c. arm (counted (c .before .args .t1)) (c .match .keys2))
     (λ c. arm (counted (c .before .args .t1)) (c .match .keys3))
     (λ c. arm (counted (c .before .args .t1)) (c .match .keys4))
@@ -37,4 +28,4 @@ count-spec =
     (λ c. arm (counted (c .before .args .t1)) (c .match .keys9))
     (λ c. arm (counted (c .before .args .t1)) (c .match .keys10))
     (λ c. arm (counted (c .before .args .t1)) (c .match .keys11))
-    (λ c. arm (counted (c .before .args .t1)) (last _ (c .before .pre) (c .match .rest))))
+    (λ c. arm (counted (c .before .args .t1)) (⊎-elim (λ k. k .keys12) (λ r. absurd (no-other _ (c .before .pre) (r .rest))) (c .match .came))))

@@ -20,9 +20,6 @@ shared-slice-read-wrong-height c = omega (arith, there (c .before))
 cast-wrong-height : tie.Need-cast-wrong-height
 cast-wrong-height c = omega (arith, c .shared-slice-known2 .given (c .before .before .before .args .at))
 
-wrong-height-requires : tie.Need-wrong-height-requires
-wrong-height-requires c κs = search needs
-
 returns-2 : tie.Need-returns-2
 returns-2 c =
     let args = c .before .before .before .before .args in
@@ -30,10 +27,4 @@ returns-2 c =
 
 pub height-out-of-range-spec : {M : Type 1} → statement M
 height-out-of-range-spec =
-    tie.close
-    (tie.spec
-    returns
-    shared-slice-read-wrong-height
-    cast-wrong-height
-    wrong-height-requires
-    returns-2)
+    tie.close (tie.spec returns shared-slice-read-wrong-height cast-wrong-height (λ c κs. search needs) returns-2)

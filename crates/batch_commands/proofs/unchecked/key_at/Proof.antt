@@ -31,12 +31,4 @@ returns-4 c = let start = c .before .before in rw (keyless (start .args .code) (
 
 pub key-at-spec : {M : Type 1} → statement M
 key-at-spec =
-    tie.close
-    (tie.spec
-    word-at-requires
-    word-at-requires-2
-    word-at-requires-3
-    returns
-    returns-2
-    returns-3
-    returns-4)
+    tie.close (tie.spec word-at-requires word-at-requires-2 word-at-requires-3 returns returns-2 returns-3 returns-4)

@@ -16,32 +16,17 @@ in-first c =
     (λ x. rw (ne-eqb _ 0 (x .left)))
     (c .if1 .came)
 
-array-read-if1 : tie.Need-array-read-if1
-array-read-if1 c = search needs
-
 returns : tie.Need-returns
 returns c = rw (eq-eqb _ 0 (c .before .if1 .taken), ne-eqb _ 1 (c .if2 .taken))
 
-limit-requires : tie.Need-limit-requires
-limit-requires c κs = search needs
-
-count-requires : tie.Need-count-requires
-count-requires c κs = search needs
-
 returns-2 : tie.Need-returns-2
 returns-2 c = rw (in-first (c .before .before .before), ← (c .before .before .limit .ensures), ← (c .before .count .ensures), le-leb _ _ (c .if3 .taken))
-
-mixed-requires : tie.Need-mixed-requires
-mixed-requires c κs = search needs
 
 returns-3 : tie.Need-returns-3
 returns-3 c = let over = c .before .before in rw (in-first (over .before .before .before), ← (over .before .before .limit .ensures), ← (over .before .count .ensures), lt-leb _ _ (over .if3 .left), ← (c .before .mixed .ensures), c .if4 .taken)
 
 returns-4 : tie.Need-returns-4
 returns-4 c = let one = c .before in let over = one .before .before in rw (in-first (over .before .before .before), ← (over .before .before .limit .ensures), ← (over .before .count .ensures), lt-leb _ _ (over .if3 .left), ← (one .before .mixed .ensures), one .if4 .left, ne-eqb _ 0 (c .if5 .taken))
-
-missing-requires : tie.Need-missing-requires
-missing-requires c κs = search needs
 
 returns-5 : tie.Need-returns-5
 returns-5 c = let last = c .before .before in let one = last .before in let over = one .before .before in rw (in-first (over .before .before .before), ← (over .before .before .limit .ensures), ← (over .before .count .ensures), lt-leb _ _ (over .if3 .left), ← (one .before .mixed .ensures), one .if4 .left, eq-eqb _ 0 (last .if5 .left), ← (c .before .missing .ensures), c .if6 .taken)
@@ -53,14 +38,5 @@ pub out-of-place-spec : {M : Type 1} → statement M
 out-of-place-spec =
     tie.close
     (tie.spec
-    array-read-if1
-    returns
-    limit-requires
-    count-requires
-    returns-2
-    mixed-requires
-    returns-3
-    returns-4
-    missing-requires
-    returns-5
-    returns-6)
+    (λ c. search needs) returns (λ c κs. search needs) (λ c κs. search needs) returns-2 (λ c κs. search needs)
+    returns-3 returns-4 (λ c κs. search needs) returns-5 returns-6)

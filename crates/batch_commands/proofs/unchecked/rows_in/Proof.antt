@@ -4,15 +4,6 @@ use borrow.Author.Tests.{eq-eqb, ne-eqb}
 use Rattle.batch_commands.proofs.unchecked.rows_in.Statement.{statement}
 use Rattle.batch_commands.proofs.unchecked.rows_in.Tie as tie
 
-array-read-if1 : tie.Need-array-read-if1
-array-read-if1 c = search needs
-
-array-read-result : tie.Need-array-read-result
-array-read-result c = search needs
-
-array-read-result-2 : tie.Need-array-read-result-2
-array-read-result-2 c = search needs
-
 returns : tie.Need-returns
 returns c = rw (eq-eqb _ 0 (c .if1 .taken))
 
@@ -20,5 +11,4 @@ returns-2 : tie.Need-returns-2
 returns-2 c = rw (ne-eqb _ 0 (c .if1 .left))
 
 pub rows-in-spec : {M : Type 1} → statement M
-rows-in-spec =
-    tie.close (tie.spec array-read-if1 array-read-result array-read-result-2 returns returns-2)
+rows-in-spec = tie.close (tie.spec (λ c. search needs) (λ c. search needs) (λ c. search needs) returns returns-2)

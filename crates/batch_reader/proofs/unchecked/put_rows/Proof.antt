@@ -40,14 +40,8 @@ put-section-requires c κs = let s = start (c .before .before) in (s .pre .0, ((
 put-section-requires-2 : tie.Need-put-section-requires-2
 put-section-requires-2 c κs = let s = start (c .before .before) in (s .pre .0, ((lit< tt, lit< tt, rw (is-plain (c .before)) (λ z. omega arith)), (s .pre .1 .0, room s Plain (is-plain (c .before)))))
 
-same-length : tie.Need-same-length
-same-length c = search needs
-
 returns : tie.Need-returns
 returns c = let first = c .before .before .before .before in rw (rows-are (start (first .before) .args .batch .now) Montgomery (is-montgomery first)) (c .before .before .put-section .ensures)
-
-same-length-2 : tie.Need-same-length-2
-same-length-2 c = search needs
 
 returns-2 : tie.Need-returns-2
 returns-2 c = let first = c .before .before .before .before in rw (rows-are (start (first .before) .args .batch .now) Plain (is-plain first)) (c .before .before .put-section2 .ensures)
@@ -56,11 +50,5 @@ pub put-rows-spec : {M : Type 1} → statement M
 put-rows-spec =
     tie.close
     (tie.spec
-    shared-slice-read-if1
-    cast-if1
-    put-section-requires
-    put-section-requires-2
-    same-length
-    returns
-    same-length-2
-    returns-2)
+    shared-slice-read-if1 cast-if1 put-section-requires put-section-requires-2 (λ c. search needs) returns
+    (λ c. search needs) returns-2)

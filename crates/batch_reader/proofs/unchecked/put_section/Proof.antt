@@ -45,9 +45,6 @@ loop-holds c =
     let s = c .before .before .before in
     begins (s .args .batch .now) (s .args .wanted) (s .pre .0) (s .pre .1 .0 .0) (s .pre .1 .0 .1) (s .args .form) (s .args .slice .now) (s .args .at) (s .pre .1 .1 .0)
 
-shared-slice-read-if1 : tie.Need-shared-slice-read-if1 Inv-loop μ-loop
-shared-slice-read-if1 c = search needs
-
 cast-if1 : tie.Need-cast-if1 Inv-loop μ-loop
 cast-if1 c = omega (arith, c .shared-slice-known2 .given (c .before .before .loop .place))
 
@@ -99,20 +96,5 @@ pub put-section-spec : {M : Type 1} → statement M
 put-section-spec =
     tie.close
     (tie.spec
-    Inv-loop
-    μ-loop
-    width-requires
-    loop-holds
-    shared-slice-read-if1
-    cast-if1
-    same-length
-    returns
-    add-put-words
-    put-words-requires
-    add-to
-    add-place
-    add-place-2
-    loop-less
-    loop-again
-    same-length-2
-    returns-2)
+    Inv-loop μ-loop width-requires loop-holds (λ c. search needs) cast-if1 same-length returns add-put-words
+    put-words-requires add-to add-place add-place-2 loop-less loop-again same-length-2 returns-2)

@@ -20,32 +20,8 @@ abbrev μ-loop : tie.MeasureT-loop
 loop-holds : tie.Need-loop-holds Inv-loop μ-loop
 loop-holds c = (search needs, refl, none-yet (c .before .args .list .now) _)
 
-sub-i : tie.Need-sub-i Inv-loop μ-loop
-sub-i c = search needs
-
-mul-room : tie.Need-mul-room Inv-loop μ-loop
-mul-room c = search needs
-
-sub-insert : tie.Need-sub-insert Inv-loop μ-loop
-sub-insert c = search needs
-
-part-room-start : tie.Need-part-room-start Inv-loop μ-loop
-part-room-start c = search needs
-
-part-room-end : tie.Need-part-room-end Inv-loop μ-loop
-part-room-end c = search needs
-
-mul-insert : tie.Need-mul-insert Inv-loop μ-loop
-mul-insert c = search needs
-
-shared-slice-read-insert : tie.Need-shared-slice-read-insert Inv-loop μ-loop
-shared-slice-read-insert c = search needs
-
 insert-requires : tie.Need-insert-requires Inv-loop μ-loop
 insert-requires c κs = simp (length-take, length-drop) (omega arith)
-
-loop-less : tie.Need-loop-less Inv-loop μ-loop
-loop-less c = search needs
 
 loop-again : tie.Need-loop-again Inv-loop μ-loop
 loop-again c =
@@ -67,17 +43,5 @@ pub sorted-spec : {M : Type 1} → statement M
 sorted-spec =
     tie.close
     (tie.spec
-    Inv-loop
-    μ-loop
-    loop-holds
-    sub-i
-    mul-room
-    sub-insert
-    part-room-start
-    part-room-end
-    mul-insert
-    shared-slice-read-insert
-    insert-requires
-    loop-less
-    loop-again
-    returns)
+    Inv-loop μ-loop loop-holds (λ c. search needs) (λ c. search needs) (λ c. search needs) (λ c. search needs)
+    (λ c. search needs) (λ c. search needs) (λ c. search needs) insert-requires (λ c. search needs) loop-again returns)

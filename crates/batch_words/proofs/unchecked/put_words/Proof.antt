@@ -22,33 +22,6 @@ abbrev μ-loop : tie.MeasureT-loop
 loop-holds : tie.Need-loop-holds Inv-loop μ-loop
 loop-holds c = let args = c .before .before .args in (search needs, search needs, paste-zero (args .slice .now) (args .to) (plain (args .form) (words (args .n) (drop (args .at) (args .batch .now)))))
 
-mul-word-at : tie.Need-mul-word-at Inv-loop μ-loop
-mul-word-at c = search needs
-
-add-word-at : tie.Need-add-word-at Inv-loop μ-loop
-add-word-at c = search needs
-
-word-at-requires : tie.Need-word-at-requires Inv-loop μ-loop
-word-at-requires c κs = search needs
-
-plain-word-requires : tie.Need-plain-word-requires Inv-loop μ-loop
-plain-word-requires c κs = search needs
-
-add-slice : tie.Need-add-slice Inv-loop μ-loop
-add-slice c = search needs
-
-mul-slice : tie.Need-mul-slice Inv-loop μ-loop
-mul-slice c = search needs
-
-slice-write-slice : tie.Need-slice-write-slice Inv-loop μ-loop
-slice-write-slice c = search needs
-
-add-i : tie.Need-add-i Inv-loop μ-loop
-add-i c = search needs
-
-loop-less : tie.Need-loop-less Inv-loop μ-loop
-loop-less c = search needs
-
 loop-again : tie.Need-loop-again Inv-loop μ-loop
 loop-again c =
     let read = c .before in
@@ -68,9 +41,6 @@ loop-again c =
           ∙ paste-suc (args .slice .now) (args .to) ws i 0 room within ∙ ap (paste (args .slice .now) (args .to) ws) (sym (add-one i)),
     )
 
-same-length : tie.Need-same-length Inv-loop μ-loop
-same-length c = search needs
-
 returns : tie.Need-returns Inv-loop μ-loop
 returns c =
     let at-loop = c .before in
@@ -84,18 +54,6 @@ pub put-words-spec : {M : Type 1} → statement M
 put-words-spec =
     tie.close
     (tie.spec
-    Inv-loop
-    μ-loop
-    loop-holds
-    mul-word-at
-    add-word-at
-    word-at-requires
-    plain-word-requires
-    add-slice
-    mul-slice
-    slice-write-slice
-    add-i
-    loop-less
-    loop-again
-    same-length
-    returns)
+    Inv-loop μ-loop loop-holds (λ c. search needs) (λ c. search needs) (λ c κs. search needs) (λ c κs. search needs)
+    (λ c. search needs) (λ c. search needs) (λ c. search needs) (λ c. search needs) (λ c. search needs) loop-again
+    (λ c. search needs) returns)

@@ -8,78 +8,6 @@ use Rattle.batch_words.proofs.Pasting.{stored}
 use Rattle.batch_words.proofs.unchecked.write_word.Statement.{statement}
 use Rattle.batch_words.proofs.unchecked.write_word.Tie as tie
 
-cast-batch : tie.Need-cast-batch
-cast-batch c = search needs
-
-slice-write-batch : tie.Need-slice-write-batch
-slice-write-batch c = search needs
-
-cast-batch-2 : tie.Need-cast-batch-2
-cast-batch-2 c = search needs
-
-add-batch : tie.Need-add-batch
-add-batch c = search needs
-
-slice-write-batch-2 : tie.Need-slice-write-batch-2
-slice-write-batch-2 c = simp length-set (omega arith)
-
-cast-batch-3 : tie.Need-cast-batch-3
-cast-batch-3 c = search needs
-
-add-batch-2 : tie.Need-add-batch-2
-add-batch-2 c = search needs
-
-slice-write-batch-3 : tie.Need-slice-write-batch-3
-slice-write-batch-3 c = simp length-set (omega arith)
-
-cast-batch-4 : tie.Need-cast-batch-4
-cast-batch-4 c = search needs
-
-add-batch-3 : tie.Need-add-batch-3
-add-batch-3 c = search needs
-
-slice-write-batch-4 : tie.Need-slice-write-batch-4
-slice-write-batch-4 c = simp length-set (omega arith)
-
-cast-batch-5 : tie.Need-cast-batch-5
-cast-batch-5 c = search needs
-
-add-batch-4 : tie.Need-add-batch-4
-add-batch-4 c = search needs
-
-slice-write-batch-5 : tie.Need-slice-write-batch-5
-slice-write-batch-5 c = simp length-set (omega arith)
-
-cast-batch-6 : tie.Need-cast-batch-6
-cast-batch-6 c = search needs
-
-add-batch-5 : tie.Need-add-batch-5
-add-batch-5 c = search needs
-
-slice-write-batch-6 : tie.Need-slice-write-batch-6
-slice-write-batch-6 c = simp length-set (omega arith)
-
-cast-batch-7 : tie.Need-cast-batch-7
-cast-batch-7 c = search needs
-
-add-batch-6 : tie.Need-add-batch-6
-add-batch-6 c = search needs
-
-slice-write-batch-7 : tie.Need-slice-write-batch-7
-slice-write-batch-7 c = simp length-set (omega arith)
-
-cast-batch-8 : tie.Need-cast-batch-8
-cast-batch-8 c = search needs
-
-add-batch-7 : tie.Need-add-batch-7
-add-batch-7 c = search needs
-
-slice-write-batch-8 : tie.Need-slice-write-batch-8
-slice-write-batch-8 c = simp length-set (omega arith)
-
-same-length : tie.Need-same-length
-same-length c = simp length-set
-
 returns : tie.Need-returns
 unfolding littleEndian
 returns c = stored (c .args .batch .now) (c .args .at) _ (_ ∷ _ ∷ _ ∷ _ ∷ _ ∷ _ ∷ _ ∷ []) (c .pre)
@@ -88,28 +16,9 @@ pub write-word-spec : {M : Type 1} → statement M
 write-word-spec =
     tie.close
     (tie.spec
-    cast-batch
-    slice-write-batch
-    cast-batch-2
-    add-batch
-    slice-write-batch-2
-    cast-batch-3
-    add-batch-2
-    slice-write-batch-3
-    cast-batch-4
-    add-batch-3
-    slice-write-batch-4
-    cast-batch-5
-    add-batch-4
-    slice-write-batch-5
-    cast-batch-6
-    add-batch-5
-    slice-write-batch-6
-    cast-batch-7
-    add-batch-6
-    slice-write-batch-7
-    cast-batch-8
-    add-batch-7
-    slice-write-batch-8
-    same-length
-    returns)
+    (λ c. search needs) (λ c. search needs) (λ c. search needs) (λ c. search needs)
+    (λ c. simp length-set (omega arith)) (λ c. search needs) (λ c. search needs) (λ c. simp length-set (omega arith))
+    (λ c. search needs) (λ c. search needs) (λ c. simp length-set (omega arith)) (λ c. search needs)
+    (λ c. search needs) (λ c. simp length-set (omega arith)) (λ c. search needs) (λ c. search needs)
+    (λ c. simp length-set (omega arith)) (λ c. search needs) (λ c. search needs) (λ c. simp length-set (omega arith))
+    (λ c. search needs) (λ c. search needs) (λ c. simp length-set (omega arith)) (λ c. simp length-set) returns)

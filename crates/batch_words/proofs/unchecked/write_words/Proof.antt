@@ -24,30 +24,6 @@ loop-holds : tie.Need-loop-holds Inv-loop μ-loop
 unfolding bytesOf
 loop-holds c = let args = c .before .before .args in (search needs, refl, pasted-none (args .batch .now) (args .at))
 
-mul-write-word : tie.Need-mul-write-word Inv-loop μ-loop
-mul-write-word c = search needs
-
-add-write-word : tie.Need-add-write-word Inv-loop μ-loop
-add-write-word c = search needs
-
-mul-word-in : tie.Need-mul-word-in Inv-loop μ-loop
-mul-word-in c = search needs
-
-shared-slice-read-word-in : tie.Need-shared-slice-read-word-in Inv-loop μ-loop
-shared-slice-read-word-in c = search needs
-
-word-in-requires : tie.Need-word-in-requires Inv-loop μ-loop
-word-in-requires c κs = search needs
-
-write-word-requires : tie.Need-write-word-requires Inv-loop μ-loop
-write-word-requires c κs = search needs
-
-add-i : tie.Need-add-i Inv-loop μ-loop
-add-i c = search needs
-
-loop-less : tie.Need-loop-less Inv-loop μ-loop
-loop-less c = search needs
-
 loop-again : tie.Need-loop-again Inv-loop μ-loop
 loop-again c =
     let made = c .before .before .before in
@@ -63,9 +39,6 @@ loop-again c =
       wrote .ensures ∙ ap₂ (λ l w. pasted l (args .at + 8 * i) (littleEndian 8 w)) (at-loop .loop .inv .2) word ∙ word-on (args .batch .now) (args .at) ws i (omega arith) (omega arith),
     )
 
-same-length : tie.Need-same-length Inv-loop μ-loop
-same-length c = search needs
-
 returns : tie.Need-returns Inv-loop μ-loop
 returns c =
     let args = c .before .before .before .before .args in
@@ -76,17 +49,6 @@ pub write-words-spec : {M : Type 1} → statement M
 write-words-spec =
     tie.close
     (tie.spec
-    Inv-loop
-    μ-loop
-    loop-holds
-    mul-write-word
-    add-write-word
-    mul-word-in
-    shared-slice-read-word-in
-    word-in-requires
-    write-word-requires
-    add-i
-    loop-less
-    loop-again
-    same-length
-    returns)
+    Inv-loop μ-loop loop-holds (λ c. search needs) (λ c. search needs) (λ c. search needs) (λ c. search needs)
+    (λ c κs. search needs) (λ c κs. search needs) (λ c. search needs) (λ c. search needs) loop-again
+    (λ c. search needs) returns)

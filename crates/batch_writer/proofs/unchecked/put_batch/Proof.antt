@@ -160,9 +160,6 @@ put-commands-requires-4 c κs =
     let f = fits (start5 (c .before)) in
     ((lit< tt, refl), (f .words06, has-room (reached5 (c .before)) 1417 (f .room06)))
 
-row-command-requires : tie.Need-row-command-requires
-row-command-requires c κs = search needs
-
 put-commands-requires-5 : tie.Need-put-commands-requires-5
 put-commands-requires-5 c κs =
     let at = c .before .before in
@@ -189,9 +186,6 @@ put-differences-requires-3 c κs =
     let f = fits (start9 (c .before)) in
     ((lit< tt, refl, lengths (start9 (c .before)) .jump-stack), has-room (reached9 (c .before)) (length (g .jump-stack) * 9) (f .room05))
 
-cast-batch : tie.Need-cast-batch
-cast-batch c = search needs
-
 slice-write-batch : tie.Need-slice-write-batch
 slice-write-batch c = last-room (reached10 c) (fits (start10 c) .room00)
 
@@ -205,18 +199,6 @@ pub put-batch-spec : {M : Type 1} → statement M
 put-batch-spec =
     tie.close
     (tie.spec
-    put-trace-rows-requires
-    put-height-requires
-    put-commands-requires
-    put-commands-requires-2
-    put-commands-requires-3
-    put-commands-requires-4
-    row-command-requires
-    put-commands-requires-5
-    put-differences-requires
-    put-differences-requires-2
-    put-differences-requires-3
-    cast-batch
-    slice-write-batch
-    same-length
-    returns)
+    put-trace-rows-requires put-height-requires put-commands-requires put-commands-requires-2 put-commands-requires-3
+    put-commands-requires-4 (λ c κs. search needs) put-commands-requires-5 put-differences-requires
+    put-differences-requires-2 put-differences-requires-3 (λ c. search needs) slice-write-batch same-length returns)

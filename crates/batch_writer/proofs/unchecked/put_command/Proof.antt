@@ -11,18 +11,6 @@ use Rattle.batch_words.proofs.Pasting.{stored-on}
 use Rattle.batch_writer.proofs.unchecked.put_command.Statement.{statement}
 use Rattle.batch_writer.proofs.unchecked.put_command.Tie as tie
 
-cast-batch : tie.Need-cast-batch
-cast-batch c = search needs
-
-slice-write-batch : tie.Need-slice-write-batch
-slice-write-batch c = search needs
-
-add-write-words : tie.Need-add-write-words
-add-write-words c = search needs
-
-write-words-requires : tie.Need-write-words-requires
-write-words-requires c κs = search needs
-
 same-length : tie.Need-same-length
 same-length c = let args = c .before .before .before .before .before .before .args in c .before .before .write-words .kept .1 .1 .0 ∙ length-set (args .batch .now) (args .at) (args .code)
 
@@ -35,9 +23,4 @@ pub put-command-spec : {M : Type 1} → statement M
 put-command-spec =
     tie.close
     (tie.spec
-    cast-batch
-    slice-write-batch
-    add-write-words
-    write-words-requires
-    same-length
-    returns)
+    (λ c. search needs) (λ c. search needs) (λ c. search needs) (λ c κs. search needs) same-length returns)

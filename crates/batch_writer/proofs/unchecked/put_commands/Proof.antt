@@ -23,26 +23,11 @@ room c =
     let args = at-loop .before .before .before .before .args in
     fits (args .batch .now) (args .at) (args .code) (inForm (args .form) (args .words .now)) (args .n) (at-loop .before .width .result / 8) (at-loop .loop .batch) (at-loop .loop .to) (at-loop .loop .from) (at-loop .loop .left) (at-loop .loop .inv .0) (omega (arith, c .loop-test .taken))
 
-width-requires : tie.Need-width-requires Inv-loop μ-loop
-width-requires c κs = search needs
-
 loop-holds : tie.Need-loop-holds Inv-loop μ-loop
 loop-holds c =
     let start = c .before .before .before in
     let args = start .args in
     (none-put (args .batch .now) (args .at) (args .code) (inForm (args .form) (args .words .now)) (args .n) (c .width .result / 8) (start .pre .0 .1) (ap (λ w. w / 8) (c .width .ensures)) (rw (length-in-form (args .form) (args .words .now)) (start .pre .1 .0)) (start .pre .1 .1), length-in-form (args .form) (args .words .now))
-
-add-put-command : tie.Need-add-put-command Inv-loop μ-loop
-add-put-command c = search needs
-
-mul-put-command : tie.Need-mul-put-command Inv-loop μ-loop
-mul-put-command c = search needs
-
-sub-put-command : tie.Need-sub-put-command Inv-loop μ-loop
-sub-put-command c = search needs
-
-part-put-command-start : tie.Need-part-put-command-start Inv-loop μ-loop
-part-put-command-start c = search needs
 
 part-put-command-end : tie.Need-part-put-command-end Inv-loop μ-loop
 part-put-command-end c = omega (arith, room (c .before) .0, c .before .before .loop .inv .1)
@@ -50,23 +35,8 @@ part-put-command-end c = omega (arith, room (c .before) .0, c .before .before .l
 put-command-requires : tie.Need-put-command-requires Inv-loop μ-loop
 put-command-requires c κs = let r = room (c .before .before) in (search needs, simp (length-take, length-drop) (omega arith))
 
-add-to : tie.Need-add-to Inv-loop μ-loop
-add-to c = search needs
-
-mul-to : tie.Need-mul-to Inv-loop μ-loop
-mul-to c = search needs
-
 add-to-2 : tie.Need-add-to-2 Inv-loop μ-loop
 add-to-2 c = let r = room (c .before .before .before .before .before) in omega arith
-
-add-from : tie.Need-add-from Inv-loop μ-loop
-add-from c = search needs
-
-sub-left : tie.Need-sub-left Inv-loop μ-loop
-sub-left c = search needs
-
-loop-less : tie.Need-loop-less Inv-loop μ-loop
-loop-less c = search needs
 
 loop-again : tie.Need-loop-again Inv-loop μ-loop
 loop-again c =
@@ -76,9 +46,6 @@ loop-again c =
     let each = at-loop .before .width .result / 8 in
     let from = at-loop .loop .from in
     (one-put (args .batch .now) (args .at) (args .code) (inForm (args .form) (args .words .now)) (args .n) (at-loop .before .width .result / 8) (at-loop .loop .batch) (at-loop .loop .to) (at-loop .loop .from) (at-loop .loop .left) (at-loop .loop .inv .0) (omega arith) (put .last .0) (put .kept .0) (rw (sym (in-form-part (args .form) (from + each - from) from (args .words .now))) (put .ensures)), at-loop .loop .inv .1)
-
-same-length : tie.Need-same-length Inv-loop μ-loop
-same-length c = search needs
 
 returns : tie.Need-returns Inv-loop μ-loop
 returns c =
@@ -91,22 +58,6 @@ pub put-commands-spec : {M : Type 1} → statement M
 put-commands-spec =
     tie.close
     (tie.spec
-    Inv-loop
-    μ-loop
-    width-requires
-    loop-holds
-    add-put-command
-    mul-put-command
-    sub-put-command
-    part-put-command-start
-    part-put-command-end
-    put-command-requires
-    add-to
-    mul-to
-    add-to-2
-    add-from
-    sub-left
-    loop-less
-    loop-again
-    same-length
-    returns)
+    Inv-loop μ-loop (λ c κs. search needs) loop-holds (λ c. search needs) (λ c. search needs) (λ c. search needs)
+    (λ c. search needs) part-put-command-end put-command-requires (λ c. search needs) (λ c. search needs) add-to-2
+    (λ c. search needs) (λ c. search needs) (λ c. search needs) loop-again (λ c. search needs) returns)

@@ -12,12 +12,6 @@ use Rattle.batch_writer.specs.Layout.{commandsWith}
 use Rattle.batch_writer.proofs.unchecked.put_differences.Statement.{statement}
 use Rattle.batch_writer.proofs.unchecked.put_differences.Tie as tie
 
-sorted-requires : tie.Need-sorted-requires
-sorted-requires c κs = search needs
-
-array-share-prefix-ascending : tie.Need-array-share-prefix-ascending
-array-share-prefix-ascending c = search needs
-
 slice-aggregate-put-commands : tie.Need-slice-aggregate-put-commands
 slice-aggregate-put-commands c = let list = c .before .before .before .before .before .args .list .now in sym (ap length (c .before .before .sorted .ensures) ∙ length-sorted list)
 
@@ -28,9 +22,6 @@ put-commands-requires c κs =
     let eight = start .pre .0 .1 in
     let long = ap length (c .before .before .sorted .ensures) ∙ length-sorted (start .args .list .now) in
     ((start .pre .0 .0, omega (arith, eight)), (omega (arith, ap (λ w. n * (w / 8)) eight, long), omega (arith, ap (λ w. n * (1 + w)) eight, start .pre .1)))
-
-same-length : tie.Need-same-length
-same-length c = search needs
 
 returns : tie.Need-returns
 returns c =
@@ -45,9 +36,5 @@ pub put-differences-spec : {M : Type 1} → statement M
 put-differences-spec =
     tie.close
     (tie.spec
-    sorted-requires
-    array-share-prefix-ascending
-    slice-aggregate-put-commands
-    put-commands-requires
-    same-length
+    (λ c κs. search needs) (λ c. search needs) slice-aggregate-put-commands put-commands-requires (λ c. search needs)
     returns)

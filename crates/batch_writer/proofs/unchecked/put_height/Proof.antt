@@ -18,20 +18,11 @@ there c = rw (ne-eqb _ 0 (c .if1 .left)) at (c .before .pre .1)
 returns : tie.Need-returns
 returns c = let args = c .before .args in rw (laid-height (args .log2-height), eq-eqb _ 0 (c .if1 .taken)) (omega arith, pasted-none (args .batch .now) 5)
 
-cast-batch : tie.Need-cast-batch
-cast-batch c = search needs
-
 slice-write-batch : tie.Need-slice-write-batch
 slice-write-batch c = omega (arith, there c)
 
-cast-batch-2 : tie.Need-cast-batch-2
-cast-batch-2 c = search needs
-
 slice-write-batch-2 : tie.Need-slice-write-batch-2
 slice-write-batch-2 c = simp length-set (omega (arith, there c))
-
-same-length : tie.Need-same-length
-same-length c = search needs
 
 returns-2 : tie.Need-returns-2
 unfolding littleEndian
@@ -45,10 +36,5 @@ pub put-height-spec : {M : Type 1} → statement M
 put-height-spec =
     tie.close
     (tie.spec
-    returns
-    cast-batch
-    slice-write-batch
-    cast-batch-2
-    slice-write-batch-2
-    same-length
+    returns (λ c. search needs) slice-write-batch (λ c. search needs) slice-write-batch-2 (λ c. search needs)
     returns-2)

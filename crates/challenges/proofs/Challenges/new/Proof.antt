@@ -10,18 +10,19 @@ use lib.ListN.{length}
 use Rattle.refusal.specs.Long.{isLong}
 use Rattle.field_base.specs.Words.{allBelow}
 use Rattle.field_base.proofs.Below.{and-true}
+use Rattle.air.specs.ChallengeId.{RECORD-WORDS, SAMPLED-WORDS}
 use Rattle.challenges.specs.Derived.{rightLengths, allWordsBelow, challengesAnswer, challengesRecord}
 use Rattle.challenges.proofs.Challenges.new.Statement.{statement}
 use Rattle.challenges.proofs.Challenges.new.Tie as tie
 
 module _ (sampled digest input output : List ℕ) where
-  lengths : (lent : List ℕ) → rightLengths sampled digest input output lent ≡ true → (length sampled ≡ 177) × (length lent ≡ 189)
+  lengths : (lent : List ℕ) → rightLengths sampled digest input output lent ≡ true → (length sampled ≡ SAMPLED-WORDS) × (length lent ≡ RECORD-WORDS)
   lengths lent e =
-      let from-sampled = and-true (eqb (length sampled) 177) _ e in
+      let from-sampled = and-true (eqb (length sampled) SAMPLED-WORDS) _ e in
       let from-digest = and-true (eqb (length digest) 5) _ (from-sampled .1) in
       let from-input = and-true (not (isLong (length input))) _ (from-digest .1) in
       let from-output = and-true (not (isLong (length output))) _ (from-input .1) in
-      (eqb-true (length sampled) 177 (from-sampled .0), eqb-true (length lent) 189 (from-output .1))
+      (eqb-true (length sampled) SAMPLED-WORDS (from-sampled .0), eqb-true (length lent) RECORD-WORDS (from-output .1))
 
   words : allWordsBelow sampled digest input output ≡ true → (allBelow digest ≡ true) × (allBelow input ≡ true) × (allBelow output ≡ true)
   words e =
@@ -29,23 +30,11 @@ module _ (sampled digest input output : List ℕ) where
       let from-input = and-true (allBelow input) (allBelow output) (from-digest .1) in
       (from-digest .0, from-input .0, from-input .1)
 
-right-lengths-requires : tie.Need-right-lengths-requires
-right-lengths-requires c κs = search needs
-
-same-length : tie.Need-same-length
-same-length c = search needs
-
 returns : tie.Need-returns
 unfolding challengesAnswer challengesRecord
 returns c =
     let lengths-wrong = rw (c .before .right-lengths .ensures) at (not-true (c .before .right-lengths .result) (c .if1 .taken)) in
     (rw lengths-wrong, rw lengths-wrong)
-
-all-words-below-requires : tie.Need-all-words-below-requires
-all-words-below-requires c κs = search needs
-
-same-length-2 : tie.Need-same-length-2
-same-length-2 c = search needs
 
 returns-2 : tie.Need-returns-2
 unfolding challengesAnswer challengesRecord
@@ -64,9 +53,6 @@ derive-requires c κs =
       words (args .sampled .now) (args .digest .now) (args .input .now) (args .output .now) (rw (second .before .all-words-below .ensures) at (not-false (second .before .all-words-below .result) (second .if2 .left))),
     )
 
-same-length-3 : tie.Need-same-length-3
-same-length-3 c = search needs
-
 returns-3 : tie.Need-returns-3
 unfolding challengesAnswer challengesRecord
 returns-3 c =
@@ -80,12 +66,5 @@ pub new-spec : {M : Type 1} → statement M
 new-spec =
     tie.close
     (tie.spec
-    right-lengths-requires
-    same-length
-    returns
-    all-words-below-requires
-    same-length-2
-    returns-2
-    derive-requires
-    same-length-3
-    returns-3)
+    (λ c κs. search needs) (λ c. search needs) returns (λ c κs. search needs) (λ c. search needs) returns-2
+    derive-requires (λ c. search needs) returns-3)

@@ -5,18 +5,9 @@ use Rattle.column_fractions.proofs.Single.{double}
 use Rattle.column_fractions.proofs.unchecked.two_fractions.Statement.{statement}
 use Rattle.column_fractions.proofs.unchecked.two_fractions.Tie as tie
 
-element-sub-requires : tie.Need-element-sub-requires
-element-sub-requires c κs = search needs
-
-element-sub-requires-2 : tie.Need-element-sub-requires-2
-element-sub-requires-2 c κs = search needs
-
 element-add-requires : tie.Need-element-add-requires
 element-add-requires c κs =
     (rw (c .element-sub2 .ensures) (difference-canonical _ _), rw (c .before .element-sub .ensures) (difference-canonical _ _))
-
-element-mul-requires : tie.Need-element-mul-requires
-element-mul-requires c κs = search needs
 
 returns : tie.Need-returns
 returns c =
@@ -27,8 +18,4 @@ pub two-fractions-spec : {M : Type 1} → statement M
 two-fractions-spec =
     tie.close
     (tie.spec
-    element-sub-requires
-    element-sub-requires-2
-    element-add-requires
-    element-mul-requires
-    returns)
+    (λ c κs. search needs) (λ c κs. search needs) element-add-requires (λ c κs. search needs) returns)

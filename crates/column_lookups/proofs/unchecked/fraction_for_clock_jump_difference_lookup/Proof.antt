@@ -14,21 +14,9 @@ use Rattle.column_lookups.proofs.unchecked.fraction_for_clock_jump_diff
 }
 use Rattle.column_lookups.proofs.unchecked.fraction_for_clock_jump_difference_lookup.Tie as tie
 
-index-1-row : tie.Need-index-1-row
-index-1-row c = search needs
-
-word-at-requires : tie.Need-word-at-requires
-word-at-requires c κs = search needs
-
 returns : tie.Need-returns
 unfolding clockEntries sumOfFractions
 returns c = simp (eq-eqb _ 0 (sym (c .before .word-at .ensures) ∙ c .if1 .taken))
-
-word-at-requires-2 : tie.Need-word-at-requires-2
-word-at-requires-2 c κs = search needs
-
-lift-requires : tie.Need-lift-requires
-lift-requires c κs = search needs
 
 fraction-requires : tie.Need-fraction-requires
 fraction-requires c κs =
@@ -48,10 +36,5 @@ pub fraction-for-clock-jump-difference-lookup-spec : {M : Type 1} → statement 
 fraction-for-clock-jump-difference-lookup-spec =
     tie.close
     (tie.spec
-    index-1-row
-    word-at-requires
-    returns
-    word-at-requires-2
-    lift-requires
-    fraction-requires
+    (λ c. search needs) (λ c κs. search needs) returns (λ c κs. search needs) (λ c κs. search needs) fraction-requires
     returns-2)

@@ -6,30 +6,9 @@ use Rattle.column_entries.specs.Contribution.{sumOfFractions}
 use Rattle.column_lookups.proofs.unchecked.fraction_for_instruction_lookup.Statement.{statement}
 use Rattle.column_lookups.proofs.unchecked.fraction_for_instruction_lookup.Tie as tie
 
-index-1-row : tie.Need-index-1-row
-index-1-row c = search needs
-
-is-padding-requires : tie.Need-is-padding-requires
-is-padding-requires c κs = search needs
-
 returns : tie.Need-returns
 unfolding instructionEntries sumOfFractions
 returns c = rw (sym (c .before .is-padding .ensures) ∙ c .if1 .taken)
-
-word-at-requires : tie.Need-word-at-requires
-word-at-requires c κs = search needs
-
-word-at-requires-2 : tie.Need-word-at-requires-2
-word-at-requires-2 c κs = search needs
-
-word-at-requires-3 : tie.Need-word-at-requires-3
-word-at-requires-3 c κs = search needs
-
-compress3-requires : tie.Need-compress3-requires
-compress3-requires c κs = search needs
-
-fraction-requires : tie.Need-fraction-requires
-fraction-requires c κs = search needs
 
 returns-2 : tie.Need-returns-2
 unfolding instructionEntries
@@ -41,12 +20,5 @@ pub fraction-for-instruction-lookup-spec : {M : Type 1} → statement M
 fraction-for-instruction-lookup-spec =
     tie.close
     (tie.spec
-    index-1-row
-    is-padding-requires
-    returns
-    word-at-requires
-    word-at-requires-2
-    word-at-requires-3
-    compress3-requires
-    fraction-requires
-    returns-2)
+    (λ c. search needs) (λ c κs. search needs) returns (λ c κs. search needs) (λ c κs. search needs)
+    (λ c κs. search needs) (λ c κs. search needs) (λ c κs. search needs) returns-2)

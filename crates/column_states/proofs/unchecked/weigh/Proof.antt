@@ -26,29 +26,8 @@ loop-holds c =
     let start = c .before in
     (search needs, start .pre .1, weigh-none-left _ (start .args .words .now) (start .args .behind) (length (start .args .words .now)) (search needs))
 
-sub-i : tie.Need-sub-i Inv-loop μ-loop
-sub-i c = search needs
-
-mul-weigh-more : tie.Need-mul-weigh-more Inv-loop μ-loop
-mul-weigh-more c = search needs
-
-shared-slice-read-weigh-more : tie.Need-shared-slice-read-weigh-more Inv-loop μ-loop
-shared-slice-read-weigh-more c = search needs
-
-add-weigh-more : tie.Need-add-weigh-more Inv-loop μ-loop
-add-weigh-more c = search needs
-
-mul-weigh-more-2 : tie.Need-mul-weigh-more-2 Inv-loop μ-loop
-mul-weigh-more-2 c = search needs
-
-array-copy-out-weigh-more : tie.Need-array-copy-out-weigh-more Inv-loop μ-loop
-array-copy-out-weigh-more c = search needs
-
 weigh-more-requires : tie.Need-weigh-more-requires Inv-loop μ-loop
 weigh-more-requires c κs = few-in _ 15 (omega arith) (c .before .before .before .loop .inv .1)
-
-loop-less : tie.Need-loop-less Inv-loop μ-loop
-loop-less c = search needs
 
 loop-again : tie.Need-loop-again Inv-loop μ-loop
 loop-again c =
@@ -76,16 +55,5 @@ pub weigh-spec : {M : Type 1} → statement M
 weigh-spec =
     tie.close
     (tie.spec
-    Inv-loop
-    μ-loop
-    loop-holds
-    sub-i
-    mul-weigh-more
-    shared-slice-read-weigh-more
-    add-weigh-more
-    mul-weigh-more-2
-    array-copy-out-weigh-more
-    weigh-more-requires
-    loop-less
-    loop-again
-    returns)
+    Inv-loop μ-loop loop-holds (λ c. search needs) (λ c. search needs) (λ c. search needs) (λ c. search needs)
+    (λ c. search needs) (λ c. search needs) weigh-more-requires (λ c. search needs) loop-again returns)

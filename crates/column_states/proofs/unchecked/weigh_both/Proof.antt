@@ -9,15 +9,6 @@ use Rattle.column_states.proofs.Weighing.{weigh-append}
 use Rattle.column_states.proofs.unchecked.weigh_both.Statement.{statement}
 use Rattle.column_states.proofs.unchecked.weigh_both.Tie as tie
 
-add-weigh : tie.Need-add-weigh
-add-weigh c = search needs
-
-weigh-requires : tie.Need-weigh-requires
-weigh-requires c κs = search needs
-
-weigh-requires-2 : tie.Need-weigh-requires-2
-weigh-requires-2 c κs = search needs
-
 returns : tie.Need-returns
 returns c = (
   c .weigh2 .ensures .0 ∙ ap (sum _) (c .before .weigh .ensures .0 ∙ sum-zero _ (weigh-canonical _ _)) ∙ rw (weigh-append, drop-drop),
@@ -25,4 +16,4 @@ returns c = (
 )
 
 pub weigh-both-spec : {M : Type 1} → statement M
-weigh-both-spec = tie.close (tie.spec add-weigh weigh-requires weigh-requires-2 returns)
+weigh-both-spec = tie.close (tie.spec (λ c. search needs) (λ c κs. search needs) (λ c κs. search needs) returns)

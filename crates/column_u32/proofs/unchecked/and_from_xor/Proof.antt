@@ -9,17 +9,8 @@ one-half : inverse 2 ≡ 9223372034707292161
 unfolding inverse power
 one-half = refl
 
-add-requires : tie.Need-add-requires
-add-requires c κs = search needs
-
-sub-requires : tie.Need-sub-requires
-sub-requires c κs = search needs
-
-mul-requires : tie.Need-mul-requires
-mul-requires c κs = search needs
-
 returns : tie.Need-returns
 returns c = cc one-half
 
 pub and-from-xor-spec : {M : Type 1} → statement M
-and-from-xor-spec = tie.close (tie.spec add-requires sub-requires mul-requires returns)
+and-from-xor-spec = tie.close (tie.spec (λ c κs. search needs) (λ c κs. search needs) (λ c κs. search needs) returns)

@@ -7,42 +7,6 @@ use Rattle.column_u32.proofs.U32.{split, with-result, xor, one-operand,
 use Rattle.column_u32.proofs.unchecked.fraction_for_u32_lookup.Statement.{statement}
 use Rattle.column_u32.proofs.unchecked.fraction_for_u32_lookup.Tie as tie
 
-index-1-word-at : tie.Need-index-1-word-at
-index-1-word-at c = search needs
-
-word-at-requires : tie.Need-word-at-requires
-word-at-requires c κs = search needs
-
-index-1-word-at-2 : tie.Need-index-1-word-at-2
-index-1-word-at-2 c = search needs
-
-word-at-requires-2 : tie.Need-word-at-requires-2
-word-at-requires-2 c κs = search needs
-
-index-1-word-at-3 : tie.Need-index-1-word-at-3
-index-1-word-at-3 c = search needs
-
-word-at-requires-3 : tie.Need-word-at-requires-3
-word-at-requires-3 c κs = search needs
-
-index-1-word-at-4 : tie.Need-index-1-word-at-4
-index-1-word-at-4 c = search needs
-
-word-at-requires-4 : tie.Need-word-at-requires-4
-word-at-requires-4 c κs = search needs
-
-index-1-word-at-5 : tie.Need-index-1-word-at-5
-index-1-word-at-5 c = search needs
-
-word-at-requires-5 : tie.Need-word-at-requires-5
-word-at-requires-5 c κs = search needs
-
-operands-fraction-requires : tie.Need-operands-fraction-requires
-operands-fraction-requires c κs = search needs
-
-lookup-fraction-requires : tie.Need-lookup-fraction-requires
-lookup-fraction-requires c κs = search needs
-
 and-from-xor-requires : tie.Need-and-from-xor-requires
 and-from-xor-requires c κs =
     let st0 = c .before .before .before .before in
@@ -52,36 +16,6 @@ and-from-xor-requires c κs =
     let prev = word-below (getD (start .args .t1) 0 []) (start .pre .0) in
     let curr = word-below (getD (start .args .t1) 1 []) (start .pre .1 .0) in
     (rw (st0-prev .word-at2 .ensures) (prev 15), rw (st1-prev .word-at3 .ensures) (prev 16), rw (st0 .word-at4 .ensures) (curr 15))
-
-lookup-fraction-requires-2 : tie.Need-lookup-fraction-requires-2
-lookup-fraction-requires-2 c κs = search needs
-
-lookup-fraction-requires-3 : tie.Need-lookup-fraction-requires-3
-lookup-fraction-requires-3 c κs = search needs
-
-compress4-requires : tie.Need-compress4-requires
-compress4-requires c κs = search needs
-
-compress-operands-requires : tie.Need-compress-operands-requires
-compress-operands-requires c κs = search needs
-
-two-fractions-requires : tie.Need-two-fractions-requires
-two-fractions-requires c κs = search needs
-
-index-1-word-at-6 : tie.Need-index-1-word-at-6
-index-1-word-at-6 c = search needs
-
-word-at-requires-6 : tie.Need-word-at-requires-6
-word-at-requires-6 c κs = search needs
-
-index-1-word-at-7 : tie.Need-index-1-word-at-7
-index-1-word-at-7 c = search needs
-
-word-at-requires-7 : tie.Need-word-at-requires-7
-word-at-requires-7 c κs = search needs
-
-operands-fraction-requires-2 : tie.Need-operands-fraction-requires-2
-operands-fraction-requires-2 c κs = search needs
 
 returns : tie.Need-returns
 returns c =
@@ -149,33 +83,9 @@ pub fraction-for-u32-lookup-spec : {M : Type 1} → statement M
 fraction-for-u32-lookup-spec =
     tie.close
     (tie.spec
-    index-1-word-at
-    word-at-requires
-    index-1-word-at-2
-    word-at-requires-2
-    index-1-word-at-3
-    word-at-requires-3
-    index-1-word-at-4
-    word-at-requires-4
-    index-1-word-at-5
-    word-at-requires-5
-    operands-fraction-requires
-    lookup-fraction-requires
-    and-from-xor-requires
-    lookup-fraction-requires-2
-    lookup-fraction-requires-3
-    compress4-requires
-    compress-operands-requires
-    two-fractions-requires
-    index-1-word-at-6
-    word-at-requires-6
-    index-1-word-at-7
-    word-at-requires-7
-    operands-fraction-requires-2
-    returns
-    returns-2
-    returns-3
-    returns-4
-    returns-5
-    returns-6
-    returns-7)
+    (λ c. search needs) (λ c κs. search needs) (λ c. search needs) (λ c κs. search needs) (λ c. search needs)
+    (λ c κs. search needs) (λ c. search needs) (λ c κs. search needs) (λ c. search needs) (λ c κs. search needs)
+    (λ c κs. search needs) (λ c κs. search needs) and-from-xor-requires (λ c κs. search needs) (λ c κs. search needs)
+    (λ c κs. search needs) (λ c κs. search needs) (λ c κs. search needs) (λ c. search needs) (λ c κs. search needs)
+    (λ c. search needs) (λ c κs. search needs) (λ c κs. search needs) returns returns-2 returns-3 returns-4 returns-5
+    returns-6 returns-7)

@@ -6,15 +6,6 @@ use Rattle.extend_cells.specs.Cells.{valueOf}
 use Rattle.extend_cells.proofs.unchecked.put_cells.Statement.{statement}
 use Rattle.extend_cells.proofs.unchecked.put_cells.Tie as tie
 
-put-first-cells-requires : tie.Need-put-first-cells-requires
-put-first-cells-requires c κs = search needs
-
-put-other-cells-requires : tie.Need-put-other-cells-requires
-put-other-cells-requires c κs = search needs
-
-same-length : tie.Need-same-length
-same-length c = search needs
-
 returns : tie.Need-returns
 unfolding placed
 returns c =
@@ -22,5 +13,4 @@ returns c =
     cc (placed-row (valueOf (args .cells)) (args .aux .now) (args .c) (search needs))
 
 pub put-cells-spec : {M : Type 1} → statement M
-put-cells-spec =
-    tie.close (tie.spec put-first-cells-requires put-other-cells-requires same-length returns)
+put-cells-spec = tie.close (tie.spec (λ c κs. search needs) (λ c κs. search needs) (λ c. search needs) returns)

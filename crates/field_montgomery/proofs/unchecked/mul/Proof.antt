@@ -7,9 +7,6 @@ use Rattle.field_montgomery.proofs.Reduction.{high-at-most}
 use Rattle.field_montgomery.proofs.unchecked.mul.Statement.{statement}
 use Rattle.field_montgomery.proofs.unchecked.mul.Tie as tie
 
-first-product-requires : tie.Need-first-product-requires
-first-product-requires c κs = search needs
-
 reduce-requires : tie.Need-reduce-requires
 reduce-requires c κs = (
   search needs,
@@ -21,4 +18,4 @@ unfolding montgomeryProduct
 returns c = c .reduce .ensures ∙ ap fromMontgomery (c .before .first-product .ensures .0)
 
 pub mul-spec : {M : Type 1} → statement M
-mul-spec = tie.close (tie.spec first-product-requires reduce-requires returns)
+mul-spec = tie.close (tie.spec (λ c κs. search needs) reduce-requires returns)

@@ -9,15 +9,6 @@ use Rattle.field_montgomery.proofs.Reduction.{alone, Carried, carry, no
 use Rattle.field_montgomery.proofs.unchecked.reduce.Statement.{statement}
 use Rattle.field_montgomery.proofs.unchecked.reduce.Tie as tie
 
-mul-shifted : tie.Need-mul-shifted
-mul-shifted c = search needs
-
-wrapping-add-u64-requires : tie.Need-wrapping-add-u64-requires
-wrapping-add-u64-requires c κs = search needs
-
-sub-sub : tie.Need-sub-sub
-sub-sub c = search needs
-
 low : (c : tie.After-row-known) → c .before .before .before .before .before .args .product .lo < RADIX
 low c = search needs
 
@@ -44,5 +35,4 @@ returns c =
 
 pub reduce-spec : {M : Type 1} → statement M
 reduce-spec =
-    tie.close
-    (tie.spec mul-shifted wrapping-add-u64-requires sub-sub sub-sub-2 sub-requires returns)
+    tie.close (tie.spec (λ c. search needs) (λ c κs. search needs) (λ c. search needs) sub-sub-2 sub-requires returns)

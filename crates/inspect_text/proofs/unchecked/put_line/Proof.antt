@@ -18,51 +18,12 @@ lined : (row ci nia : ℕ) {d : Decoded} → decoded ci nia ≡ d → lineOf d r
 unfolding line
 lined row ci nia e = ap (λ d. lineOf d row ci nia) (sym e)
 
-instruction-from-requires : tie.Need-instruction-from-requires
-instruction-from-requires c κs = search needs
-
-enum-told : tie.Need-enum-told
-enum-told c = search needs
-
-enum-told-2 : tie.Need-enum-told-2
-enum-told-2 c = search needs
-
-put-numbers-requires : tie.Need-put-numbers-requires
-put-numbers-requires c κs = search needs
-
-put-unknown-requires : tie.Need-put-unknown-requires
-put-unknown-requires c κs = search needs
-
-slice-aggregate-put-bytes : tie.Need-slice-aggregate-put-bytes
-slice-aggregate-put-bytes c = search needs
-
-put-bytes-requires : tie.Need-put-bytes-requires
-put-bytes-requires c κs = search needs
-
-enum-known-decoded : tie.Need-enum-known-decoded
-enum-known-decoded c = search needs
-
-put-numbers-requires-2 : tie.Need-put-numbers-requires-2
-put-numbers-requires-2 c κs = search needs
-
-put-outside-requires : tie.Need-put-outside-requires
-put-outside-requires c κs = search needs
-
-slice-aggregate-put-bytes-2 : tie.Need-slice-aggregate-put-bytes-2
-slice-aggregate-put-bytes-2 c = search needs
-
-put-bytes-requires-2 : tie.Need-put-bytes-requires-2
-put-bytes-requires-2 c κs = search needs
-
 returns : tie.Need-returns
 returns c =
     let called = c .before .before .instruction-from in
     let args = c .before .before .before .before .args in
     let nothing = lined (args .row) (args .ci) (args .nia) (sym (called .ensures) ∙ c .enum-told .given .1) in
     ((sym (add-zero (args .at)) ∙ ap (λ t. args .at + length t) nothing, search needs), ap (sets (args .out .now) (args .at)) nothing)
-
-same-length : tie.Need-same-length
-same-length c = search needs
 
 returns-2 : tie.Need-returns-2
 returns-2 c =
@@ -76,9 +37,6 @@ returns-2 c =
     let all = then reason (put (ascii "\n") (third .put-bytes .ensures .0) (third .put-bytes .ensures .1)) in
     let whole = put-as all (lined (args .row) (args .ci) (args .nia) (sym (called .ensures) ∙ told .enum-told2 .given .1)) in
     ((whole .end, omega (arith, first .put-numbers .ensures .0 .1, second .put-unknown .ensures .0 .1, third .put-bytes .ensures .0)), whole .stored)
-
-same-length-2 : tie.Need-same-length-2
-same-length-2 c = search needs
 
 returns-3 : tie.Need-returns-3
 returns-3 c =
@@ -99,20 +57,6 @@ pub put-line-spec : {M : Type 1} → statement M
 put-line-spec =
     tie.close
     (tie.spec
-    instruction-from-requires
-    enum-told
-    enum-told-2
-    put-numbers-requires
-    put-unknown-requires
-    slice-aggregate-put-bytes
-    put-bytes-requires
-    enum-known-decoded
-    put-numbers-requires-2
-    put-outside-requires
-    slice-aggregate-put-bytes-2
-    put-bytes-requires-2
-    returns
-    same-length
-    returns-2
-    same-length-2
-    returns-3)
+    (λ c κs. search needs) (λ c. search needs) (λ c. search needs) (λ c κs. search needs) (λ c κs. search needs)
+    (λ c. search needs) (λ c κs. search needs) (λ c. search needs) (λ c κs. search needs) (λ c κs. search needs)
+    (λ c. search needs) (λ c κs. search needs) returns (λ c. search needs) returns-2 (λ c. search needs) returns-3)

@@ -26,32 +26,8 @@ loop-holds : tie.Need-loop-holds Inv-loop μ-loop
 unfolding rowsFrom
 loop-holds c = (search needs, search needs, search needs, record { stored = refl; end = refl })
 
-mul-first : tie.Need-mul-first Inv-loop μ-loop
-mul-first c = search needs
-
-add-end : tie.Need-add-end Inv-loop μ-loop
-add-end c = search needs
-
-mul-put-row : tie.Need-mul-put-row Inv-loop μ-loop
-mul-put-row c = search needs
-
-sub-put-row : tie.Need-sub-put-row Inv-loop μ-loop
-sub-put-row c = search needs
-
-part-put-row-start : tie.Need-part-put-row-start Inv-loop μ-loop
-part-put-row-start c = search needs
-
-part-put-row-end : tie.Need-part-put-row-end Inv-loop μ-loop
-part-put-row-end c = search needs
-
 put-row-requires : tie.Need-put-row-requires Inv-loop μ-loop
 put-row-requires c κs = (simp (length-take, length-drop) (omega arith), search needs, search needs)
-
-add-row : tie.Need-add-row Inv-loop μ-loop
-add-row c = search needs
-
-loop-less : tie.Need-loop-less Inv-loop μ-loop
-loop-less c = search needs
 
 loop-again : tie.Need-loop-again Inv-loop μ-loop
 unfolding rowsFrom
@@ -62,9 +38,6 @@ loop-again c =
     let row = at-loop .loop .row in
     let next = then (at-loop .loop .inv .3) (put (rowText (take (row * 39 + 39 - row * 39) (drop (row * 39) trace)) row) (called .ensures .0 .0) (called .ensures .1)) in
     (search needs, search needs, search needs, put-as next (ap (λ words. rowsFrom (textOf trace) 0 row ++ rowText words row) (row-part trace row) ∙ sym (one-more-row (textOf trace) row)))
-
-same-length : tie.Need-same-length Inv-loop μ-loop
-same-length c = search needs
 
 returns : tie.Need-returns Inv-loop μ-loop
 unfolding lines
@@ -79,18 +52,6 @@ pub put-lines-spec : {M : Type 1} → statement M
 put-lines-spec =
     tie.close
     (tie.spec
-    Inv-loop
-    μ-loop
-    loop-holds
-    mul-first
-    add-end
-    mul-put-row
-    sub-put-row
-    part-put-row-start
-    part-put-row-end
-    put-row-requires
-    add-row
-    loop-less
-    loop-again
-    same-length
-    returns)
+    Inv-loop μ-loop loop-holds (λ c. search needs) (λ c. search needs) (λ c. search needs) (λ c. search needs)
+    (λ c. search needs) (λ c. search needs) put-row-requires (λ c. search needs) (λ c. search needs) loop-again
+    (λ c. search needs) returns)

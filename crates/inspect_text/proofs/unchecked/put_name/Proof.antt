@@ -14,9 +14,6 @@ use Rattle.inspect_text.proofs.unchecked.put_name.Tie as tie
 within : {name : Name} {text : List ℕ} → Named name text → name .length ≤ length (name .bytes)
 within {name} n = omega (arith, length-take (name .length) (name .bytes), ap length (n .spelt))
 
-instruction-requires : tie.Need-instruction-requires
-instruction-requires c κs = search needs
-
 array-share-prefix-bytes : tie.Need-array-share-prefix-bytes
 array-share-prefix-bytes c = within (c .before .instruction .ensures .0)
 
@@ -27,9 +24,6 @@ put-bytes-requires : tie.Need-put-bytes-requires
 put-bytes-requires c κs =
     let called = c .before .before .before .instruction in
     omega (arith, length-take-le (called .result .length) (called .result .bytes) (within (called .ensures .0)), called .ensures .1)
-
-same-length : tie.Need-same-length
-same-length c = search needs
 
 returns : tie.Need-returns
 returns c =
@@ -44,9 +38,5 @@ pub put-name-spec : {M : Type 1} → statement M
 put-name-spec =
     tie.close
     (tie.spec
-    instruction-requires
-    array-share-prefix-bytes
-    slice-aggregate-put-bytes
-    put-bytes-requires
-    same-length
+    (λ c κs. search needs) array-share-prefix-bytes slice-aggregate-put-bytes put-bytes-requires (λ c. search needs)
     returns)

@@ -10,19 +10,10 @@ use borrow.Author.Needs.{needs}
 use Rattle.inspect_text.proofs.unchecked.put_outside.Statement.{statement}
 use Rattle.inspect_text.proofs.unchecked.put_outside.Tie as tie
 
-slice-aggregate-put-bytes : tie.Need-slice-aggregate-put-bytes
-slice-aggregate-put-bytes c = search needs
-
-put-bytes-requires : tie.Need-put-bytes-requires
-put-bytes-requires c κs = search needs
-
 put-decimal-requires : tie.Need-put-decimal-requires
 put-decimal-requires c κs =
     let first = c .before .before .before in
     omega (arith, at-most-twenty (first .before .before .before .before .args .nia), first .put-bytes .ensures .0)
-
-slice-aggregate-put-bytes-2 : tie.Need-slice-aggregate-put-bytes-2
-slice-aggregate-put-bytes-2 c = search needs
 
 put-bytes-requires-2 : tie.Need-put-bytes-requires-2
 put-bytes-requires-2 c κs =
@@ -36,9 +27,6 @@ put-name-requires c κs =
     let second = third .before .before .before .before .before in
     let first = second .before .before .before .before in
     omega (arith, at-most-twenty (first .before .before .before .before .args .nia), first .put-bytes .ensures .0, second .put-decimal .ensures .0, third .put-bytes2 .ensures .0)
-
-slice-aggregate-put-bytes-3 : tie.Need-slice-aggregate-put-bytes-3
-slice-aggregate-put-bytes-3 c = search needs
 
 put-bytes-requires-3 : tie.Need-put-bytes-requires-3
 put-bytes-requires-3 c κs =
@@ -56,9 +44,6 @@ put-limits-requires c κs =
     let second = third .before .before .before .before .before in
     let first = second .before .before .before .before in
     omega (arith, at-most-twenty (first .before .before .before .before .args .nia), first .put-bytes .ensures .0, second .put-decimal .ensures .0, third .put-bytes2 .ensures .0, fourth .put-name .ensures .0 .1, fifth .put-bytes3 .ensures .0)
-
-same-length : tie.Need-same-length
-same-length c = search needs
 
 returns : tie.Need-returns
 unfolding outsideText
@@ -82,14 +67,5 @@ pub put-outside-spec : {M : Type 1} → statement M
 put-outside-spec =
     tie.close
     (tie.spec
-    slice-aggregate-put-bytes
-    put-bytes-requires
-    put-decimal-requires
-    slice-aggregate-put-bytes-2
-    put-bytes-requires-2
-    put-name-requires
-    slice-aggregate-put-bytes-3
-    put-bytes-requires-3
-    put-limits-requires
-    same-length
-    returns)
+    (λ c. search needs) (λ c κs. search needs) put-decimal-requires (λ c. search needs) put-bytes-requires-2
+    put-name-requires (λ c. search needs) put-bytes-requires-3 put-limits-requires (λ c. search needs) returns)

@@ -8,18 +8,6 @@ use borrow.Author.Needs.{needs}
 use Rattle.inspect_text.proofs.unchecked.put_row.Statement.{statement}
 use Rattle.inspect_text.proofs.unchecked.put_row.Tie as tie
 
-word-at-requires : tie.Need-word-at-requires
-word-at-requires c κs = search needs
-
-word-at-requires-2 : tie.Need-word-at-requires-2
-word-at-requires-2 c κs = search needs
-
-put-line-requires : tie.Need-put-line-requires
-put-line-requires c κs = search needs
-
-same-length : tie.Need-same-length
-same-length c = search needs
-
 returns : tie.Need-returns
 returns c =
     let called = c .before .before in
@@ -30,4 +18,6 @@ returns c =
 
 pub put-row-spec : {M : Type 1} → statement M
 put-row-spec =
-    tie.close (tie.spec word-at-requires word-at-requires-2 put-line-requires same-length returns)
+    tie.close
+    (tie.spec
+    (λ c κs. search needs) (λ c κs. search needs) (λ c κs. search needs) (λ c. search needs) returns)

@@ -19,18 +19,6 @@ some : (l : List ℕ) → (length l ≡ 0 → ⊥) → l ≡ orAllDecode l
 some [] ne = absurd (ne refl)
 some (x ∷ xs) ne = refl
 
-put-lines-requires : tie.Need-put-lines-requires
-put-lines-requires c κs = search needs
-
-slice-aggregate-put-bytes : tie.Need-slice-aggregate-put-bytes
-slice-aggregate-put-bytes c = search needs
-
-put-bytes-requires : tie.Need-put-bytes-requires
-put-bytes-requires c κs = search needs
-
-same-length : tie.Need-same-length
-same-length c = search needs
-
 returns : tie.Need-returns
 unfolding traceText
 returns c =
@@ -42,9 +30,6 @@ returns c =
     let text = ap orAllDecode (sym empty) in
     let kept = lined .put-lines .ensures .1 ∙ ap (sets out 0) empty in
     ((said .put-bytes .ensures .0 ∙ ap length text, omega (arith, said .put-bytes .ensures .0)), said .put-bytes .ensures .1 ∙ ap (λ l. sets l 0 (ascii "all rows decode\n")) kept ∙ ap (sets out 0) text)
-
-same-length-2 : tie.Need-same-length-2
-same-length-2 c = search needs
 
 returns-2 : tie.Need-returns-2
 unfolding traceText
@@ -59,10 +44,5 @@ pub put-trace-spec : {M : Type 1} → statement M
 put-trace-spec =
     tie.close
     (tie.spec
-    put-lines-requires
-    slice-aggregate-put-bytes
-    put-bytes-requires
-    same-length
-    returns
-    same-length-2
+    (λ c κs. search needs) (λ c. search needs) (λ c κs. search needs) (λ c. search needs) returns (λ c. search needs)
     returns-2)

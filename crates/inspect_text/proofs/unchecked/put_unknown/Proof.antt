@@ -9,23 +9,11 @@ use borrow.Author.Needs.{needs}
 use Rattle.inspect_text.proofs.unchecked.put_unknown.Statement.{statement}
 use Rattle.inspect_text.proofs.unchecked.put_unknown.Tie as tie
 
-slice-aggregate-put-bytes : tie.Need-slice-aggregate-put-bytes
-slice-aggregate-put-bytes c = search needs
-
-put-bytes-requires : tie.Need-put-bytes-requires
-put-bytes-requires c κs = search needs
-
 put-decimal-requires : tie.Need-put-decimal-requires
 put-decimal-requires c κs = omega (arith, at-most-twenty (c .before .before .before .before .before .before .before .args .ci), c .before .before .before .put-bytes .ensures .0)
 
-slice-aggregate-put-bytes-2 : tie.Need-slice-aggregate-put-bytes-2
-slice-aggregate-put-bytes-2 c = search needs
-
 put-bytes-requires-2 : tie.Need-put-bytes-requires-2
 put-bytes-requires-2 c κs = omega (arith, at-most-twenty (c .before .before .before .before .before .before .before .before .before .before .before .before .args .ci), c .before .before .before .before .put-decimal .ensures .0, c .before .before .before .before .before .before .before .before .put-bytes .ensures .0)
-
-same-length : tie.Need-same-length
-same-length c = search needs
 
 returns : tie.Need-returns
 unfolding unknownText
@@ -41,10 +29,5 @@ pub put-unknown-spec : {M : Type 1} → statement M
 put-unknown-spec =
     tie.close
     (tie.spec
-    slice-aggregate-put-bytes
-    put-bytes-requires
-    put-decimal-requires
-    slice-aggregate-put-bytes-2
-    put-bytes-requires-2
-    same-length
-    returns)
+    (λ c. search needs) (λ c κs. search needs) put-decimal-requires (λ c. search needs) put-bytes-requires-2
+    (λ c. search needs) returns)

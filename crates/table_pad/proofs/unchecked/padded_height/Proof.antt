@@ -21,17 +21,11 @@ at-most k h = pow-le-pow-right {n = 2} (lit< tt) {i = k} {j = 22} h
 at-least : (k : ℕ) → 1 ≤ k → 2 ≤ 2 ^ k
 at-least k h = pow-le-pow-right {n = 2} (lit< tt) {i = 1} {j = k} h
 
-table-height-requires : tie.Need-table-height-requires
-table-height-requires c κs = search needs
-
 returns : tie.Need-returns
 returns c =
     let at = c .before .before .args in
     let e = c .table-height .ensures in
     (e .0 ∙ sym (ap (λ (b : Bool). cond b (height (at .rows)) (2 ^ at .«log2-height»)) (eq-eqb _ 0 (c .before .if1 .taken))), e .1, omega (arith, e .2))
-
-shl-result : tie.Need-shl-result
-shl-result c = search needs
 
 returns-2 : tie.Need-returns-2
 returns-2 c =
@@ -42,4 +36,4 @@ returns-2 c =
     (e ∙ sym (ap (λ (b : Bool). cond b (height (at .rows)) (2 ^ k)) (ne-eqb k 0 some)), rw e (at-least k (omega (arith, some))), rw e (at-most k (c .before .pre)))
 
 pub padded-height-spec : {M : Type 1} → statement M
-padded-height-spec = tie.close (tie.spec table-height-requires returns shl-result returns-2)
+padded-height-spec = tie.close (tie.spec (λ c κs. search needs) returns (λ c. search needs) returns-2)

@@ -7,27 +7,6 @@ use Rattle.table_rows.proofs.Rows.{paste-on}
 use Rattle.table_rows.proofs.unchecked.copy_row.Statement.{statement}
 use Rattle.table_rows.proofs.unchecked.copy_row.Tie as tie
 
-mul-at : tie.Need-mul-at
-mul-at c = search needs
-
-copy-third-requires : tie.Need-copy-third-requires
-copy-third-requires c κs = search needs
-
-add-copy-third : tie.Need-add-copy-third
-add-copy-third c = search needs
-
-copy-third-requires-2 : tie.Need-copy-third-requires-2
-copy-third-requires-2 c κs = search needs
-
-add-copy-third-2 : tie.Need-add-copy-third-2
-add-copy-third-2 c = search needs
-
-copy-third-requires-3 : tie.Need-copy-third-requires-3
-copy-third-requires-3 c κs = search needs
-
-same-length : tie.Need-same-length
-same-length c = search needs
-
 returns : tie.Need-returns
 returns c =
     let third = c .before .before in
@@ -45,11 +24,5 @@ pub copy-row-spec : {M : Type 1} → statement M
 copy-row-spec =
     tie.close
     (tie.spec
-    mul-at
-    copy-third-requires
-    add-copy-third
-    copy-third-requires-2
-    add-copy-third-2
-    copy-third-requires-3
-    same-length
-    returns)
+    (λ c. search needs) (λ c κs. search needs) (λ c. search needs) (λ c κs. search needs) (λ c. search needs)
+    (λ c κs. search needs) (λ c. search needs) returns)

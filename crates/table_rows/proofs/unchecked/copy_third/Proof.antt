@@ -21,30 +21,6 @@ Inv-loop2 from to₀ at third i j₀ to j = (j ≤ 13) × (length to ≡ length 
 abbrev μ-loop2 : tie.MeasureT-loop2
 μ-loop2 from to₀ at third i j₀ to j = 13 - j
 
-loop-holds : tie.Need-loop-holds Inv-loop μ-loop Inv-loop2 μ-loop2
-loop-holds c = search needs
-
-add-third : tie.Need-add-third Inv-loop μ-loop Inv-loop2 μ-loop2
-add-third c = search needs
-
-mul-third : tie.Need-mul-third Inv-loop μ-loop Inv-loop2 μ-loop2
-mul-third c = search needs
-
-shared-slice-read-third : tie.Need-shared-slice-read-third Inv-loop μ-loop Inv-loop2 μ-loop2
-shared-slice-read-third c = search needs
-
-mul-third-2 : tie.Need-mul-third-2 Inv-loop μ-loop Inv-loop2 μ-loop2
-mul-third-2 c = search needs
-
-array-write-third : tie.Need-array-write-third Inv-loop μ-loop Inv-loop2 μ-loop2
-array-write-third c = search needs
-
-add-i : tie.Need-add-i Inv-loop μ-loop Inv-loop2 μ-loop2
-add-i c = search needs
-
-loop-less : tie.Need-loop-less Inv-loop μ-loop Inv-loop2 μ-loop2
-loop-less c = search needs
-
 loop-again : tie.Need-loop-again Inv-loop μ-loop Inv-loop2 μ-loop2
 loop-again c =
     let at-loop = c .before .before in
@@ -59,35 +35,11 @@ loop-again c =
 loop2-holds : tie.Need-loop2-holds Inv-loop μ-loop Inv-loop2 μ-loop2
 loop2-holds c = let args = c .before .before .args in (search needs, refl, paste-zero (args .to .now) (args .at) (c .before .loop .third))
 
-mul-to : tie.Need-mul-to Inv-loop μ-loop Inv-loop2 μ-loop2
-mul-to c = search needs
-
-array-read-to : tie.Need-array-read-to Inv-loop μ-loop Inv-loop2 μ-loop2
-array-read-to c = search needs
-
-add-to : tie.Need-add-to Inv-loop μ-loop Inv-loop2 μ-loop2
-add-to c = search needs
-
-mul-to-2 : tie.Need-mul-to-2 Inv-loop μ-loop Inv-loop2 μ-loop2
-mul-to-2 c = search needs
-
-slice-write-to : tie.Need-slice-write-to Inv-loop μ-loop Inv-loop2 μ-loop2
-slice-write-to c = search needs
-
-add-j : tie.Need-add-j Inv-loop μ-loop Inv-loop2 μ-loop2
-add-j c = search needs
-
-loop2-less : tie.Need-loop2-less Inv-loop μ-loop Inv-loop2 μ-loop2
-loop2-less c = search needs
-
 loop2-again : tie.Need-loop2-again Inv-loop μ-loop Inv-loop2 μ-loop2
 loop2-again c =
     let read = c .before .before .before in
     let args = read .before .args in
     (search needs, search needs, rw (c .before .loop2 .inv .2, add-one, paste-suc (args .to .now) (args .at) (read .loop .third) (c .before .loop2 .j) 0 (search needs) (omega arith)))
-
-same-length : tie.Need-same-length Inv-loop μ-loop Inv-loop2 μ-loop2
-same-length c = search needs
 
 returns : tie.Need-returns Inv-loop μ-loop Inv-loop2 μ-loop2
 returns c =
@@ -102,27 +54,7 @@ pub copy-third-spec : {M : Type 1} → statement M
 copy-third-spec =
     tie.close
     (tie.spec
-    Inv-loop
-    μ-loop
-    Inv-loop2
-    μ-loop2
-    loop-holds
-    add-third
-    mul-third
-    shared-slice-read-third
-    mul-third-2
-    array-write-third
-    add-i
-    loop-less
-    loop-again
-    loop2-holds
-    mul-to
-    array-read-to
-    add-to
-    mul-to-2
-    slice-write-to
-    add-j
-    loop2-less
-    loop2-again
-    same-length
-    returns)
+    Inv-loop μ-loop Inv-loop2 μ-loop2 (λ c. search needs) (λ c. search needs) (λ c. search needs) (λ c. search needs)
+    (λ c. search needs) (λ c. search needs) (λ c. search needs) (λ c. search needs) loop-again loop2-holds
+    (λ c. search needs) (λ c. search needs) (λ c. search needs) (λ c. search needs) (λ c. search needs)
+    (λ c. search needs) (λ c. search needs) loop2-again (λ c. search needs) returns)

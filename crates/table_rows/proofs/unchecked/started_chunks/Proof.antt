@@ -11,12 +11,6 @@ use Rattle.table_rows.proofs.unchecked.started_chunks.Tie as tie
 fewer : (n k : ℕ) → 0 < k → (n % k ≡ 0 → ⊥) → n / k < n
 fewer n k h ne = div-lt-self (omega (arith, mod-le n k, ne)) (omega (arith, mod-lt n h, ne))
 
-div-whole : tie.Need-div-whole
-div-whole c = search needs
-
-rem-if1 : tie.Need-rem-if1
-rem-if1 c = search needs
-
 returns : tie.Need-returns
 returns c = (rw (eq-eqb _ 0 (c .if1 .taken)) (omega arith), div-le-self _ _)
 
@@ -29,4 +23,4 @@ returns-2 c =
     (rw (ne-eqb _ 0 (c .if1 .left)), omega (arith, fewer (args .rows) (args .chunk) (c .before .pre) (c .if1 .left)))
 
 pub started-chunks-spec : {M : Type 1} → statement M
-started-chunks-spec = tie.close (tie.spec div-whole rem-if1 returns add-result returns-2)
+started-chunks-spec = tie.close (tie.spec (λ c. search needs) (λ c. search needs) returns add-result returns-2)

@@ -13,12 +13,6 @@ use Rattle.table_rows.proofs.unchecked.window.Tie as tie
 whole : (words : List ℕ) → length words ≡ 39 → rowAt words 0 ≡ words
 whole words e = take-all 39 words (omega arith)
 
-row-requires : tie.Need-row-requires
-row-requires c κs = search needs
-
-row-requires-2 : tie.Need-row-requires-2
-row-requires-2 c κs = search needs
-
 returns : tie.Need-returns
 returns c =
     let first = c .before in
@@ -28,4 +22,4 @@ returns c =
     (c .row2 .ensures ∙ whole (start .args .curr .now) (start .pre .1))
 
 pub window-spec : {M : Type 1} → statement M
-window-spec = tie.close (tie.spec row-requires row-requires-2 returns)
+window-spec = tie.close (tie.spec (λ c κs. search needs) (λ c κs. search needs) returns)

@@ -9,42 +9,6 @@ use Rattle.tealbobbin_answers.proofs.Verdicts.{three-words}
 use Rattle.tealbobbin_answers.proofs.unchecked.put_place.Statement.{statement}
 use Rattle.tealbobbin_answers.proofs.unchecked.put_place.Tie as tie
 
-enum-known-answer : tie.Need-enum-known-answer
-enum-known-answer c = search needs
-
-number-requires : tie.Need-number-requires
-number-requires c κs = search needs
-
-enum-known-answer-2 : tie.Need-enum-known-answer-2
-enum-known-answer-2 c = search needs
-
-verdict-words-requires : tie.Need-verdict-words-requires
-verdict-words-requires c κs = search needs
-
-array-read-verdict : tie.Need-array-read-verdict
-array-read-verdict c = search needs
-
-slice-write-verdict : tie.Need-slice-write-verdict
-slice-write-verdict c = search needs
-
-array-read-verdict-2 : tie.Need-array-read-verdict-2
-array-read-verdict-2 c = search needs
-
-slice-write-verdict-2 : tie.Need-slice-write-verdict-2
-slice-write-verdict-2 c = search needs
-
-array-read-verdict-3 : tie.Need-array-read-verdict-3
-array-read-verdict-3 c = search needs
-
-slice-write-verdict-3 : tie.Need-slice-write-verdict-3
-slice-write-verdict-3 c = search needs
-
-returns : tie.Need-returns
-returns c = search needs
-
-same-length : tie.Need-same-length
-same-length c = search needs
-
 returns-2 : tie.Need-returns-2
 returns-2 c =
     let told = c .before .before in
@@ -61,16 +25,6 @@ pub put-place-spec : {M : Type 1} → statement M
 put-place-spec =
     tie.close
     (tie.spec
-    enum-known-answer
-    number-requires
-    enum-known-answer-2
-    verdict-words-requires
-    array-read-verdict
-    slice-write-verdict
-    array-read-verdict-2
-    slice-write-verdict-2
-    array-read-verdict-3
-    slice-write-verdict-3
-    returns
-    same-length
-    returns-2)
+    (λ c. search needs) (λ c κs. search needs) (λ c. search needs) (λ c κs. search needs) (λ c. search needs)
+    (λ c. search needs) (λ c. search needs) (λ c. search needs) (λ c. search needs) (λ c. search needs)
+    (λ c. search needs) (λ c. search needs) returns-2)

@@ -3,17 +3,8 @@ use borrow.Author.Needs.{needs}
 use Rattle.tealbobbin_answers.proofs.unchecked.verdict_words.Statement.{statement}
 use Rattle.tealbobbin_answers.proofs.unchecked.verdict_words.Tie as tie
 
-enum-told : tie.Need-enum-told
-enum-told c = search needs
-
-enum-known-verdict : tie.Need-enum-known-verdict
-enum-known-verdict c = search needs
-
-returns : tie.Need-returns
-returns c = search needs
-
 returns-2 : tie.Need-returns-2
 returns-2 c = rw (c .before .verdict .given .1)
 
 pub verdict-words-spec : {M : Type 1} → statement M
-verdict-words-spec = tie.close (tie.spec enum-told enum-known-verdict returns returns-2)
+verdict-words-spec = tie.close (tie.spec (λ c. search needs) (λ c. search needs) (λ c. search needs) returns-2)

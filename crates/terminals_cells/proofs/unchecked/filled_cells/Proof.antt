@@ -40,15 +40,6 @@ module _ (c : tie.After-fill) where
       ap (longer height) (c .fill .ensures .1)
       ∙ sym (law.same-table trace (start .args .op-stack .now) (start .args .ram .now) (start .args .jump-stack .now) table height (start .pre .0) (start .pre .1))
 
-fill-requires : tie.Need-fill-requires
-fill-requires c κs = search needs
-
-enum-known-answer : tie.Need-enum-known-answer
-enum-known-answer c = search needs
-
-enum-told : tie.Need-enum-told
-enum-told c = search needs
-
 padded-cells-requires : tie.Need-padded-cells-requires
 padded-cells-requires c κs =
     let at-fill = c .before .before .before .before .before .before in
@@ -56,17 +47,11 @@ padded-cells-requires c κs =
     let same : length (table at-fill) ≡ length (at-fill .fill .last .1 .1 .1 .1 .0) = omega (arith, at-fill .fill .kept .1 .1 .1 .1 .0) in
     (subst (λ (n : ℕ). eqb (n % 39) 0 ≡ true) same (pre .0), subst (λ (n : ℕ). Kept (rows (trace at-fill)) (n / 39) (height at-fill)) same (pre .1))
 
-same-length : tie.Need-same-length
-same-length c = search needs
-
 returns : tie.Need-returns
 unfolding filledAnswer
 returns c =
     let at-fill = c .before .before .before .before .before in
     (rw (same-answer at-fill ∙ sym (at-fill .fill .ensures .0) ∙ c .before .answer .given .1), refl)
-
-same-length-2 : tie.Need-same-length-2
-same-length-2 c = search needs
 
 returns-2 : tie.Need-returns-2
 unfolding filledAnswer filledCells
@@ -87,11 +72,5 @@ pub filled-cells-spec : {M : Type 1} → statement M
 filled-cells-spec =
     tie.close
     (tie.spec
-    fill-requires
-    enum-known-answer
-    enum-told
-    padded-cells-requires
-    same-length
-    returns
-    same-length-2
-    returns-2)
+    (λ c κs. search needs) (λ c. search needs) (λ c. search needs) padded-cells-requires (λ c. search needs) returns
+    (λ c. search needs) returns-2)

@@ -9,6 +9,7 @@ use Rattle.refusal.specs.Number.{onDone}
 use Rattle.refusal.specs.declared.Answer.{Answer}
 use Rattle.refusal.specs.declared.Answer.the-variants.{Done, Refused}
 use Rattle.refusal.specs.declared.Refusal.{Refusal}
+use Rattle.air.specs.ChallengeId.{RECORD-WORDS}
 use Rattle.batch_reader.specs.declared.Counts.{Counts}
 use Rattle.challenges.specs.Derived.{challengesAnswer, challengesRecord}
 use Rattle.batch.specs.Lent.{zeros}
@@ -19,13 +20,13 @@ use Rattle.terminals_cells.proofs.unchecked.opened_cells.Tie as tie
 
 module _ (counts : Counts) (trace op-stack ram jump-stack sampled digest input output : List ℕ) where
   abbrev challenges : Answer
-  challenges = challengesAnswer sampled digest (take (counts .input) input) (take (counts .output) output) (zeros 189)
+  challenges = challengesAnswer sampled digest (take (counts .input) input) (take (counts .output) output) (zeros RECORD-WORDS)
 
   refuses : (refusal : Refusal) → challenges ≡ Refused refusal → openedAnswer counts trace op-stack ram jump-stack sampled digest input output ≡ Refused refusal
   unfolding openedAnswer
   refuses refusal e = rw e
 
-  goes-on : challenges ≡ Done → openedAnswer counts trace op-stack ram jump-stack sampled digest input output ≡ tableAnswer (counts .«log2_height») (take (counts .rows * 39) trace) (take (counts .«op_stack») op-stack) (take (counts .ram) ram) (take (counts .«jump_stack») jump-stack) (challengesRecord sampled digest (take (counts .input) input) (take (counts .output) output) (zeros 189))
+  goes-on : challenges ≡ Done → openedAnswer counts trace op-stack ram jump-stack sampled digest input output ≡ tableAnswer (counts .«log2_height») (take (counts .rows * 39) trace) (take (counts .«op_stack») op-stack) (take (counts .ram) ram) (take (counts .«jump_stack») jump-stack) (challengesRecord sampled digest (take (counts .input) input) (take (counts .output) output) (zeros RECORD-WORDS))
   unfolding openedAnswer
   goes-on e = rw e
 
@@ -34,21 +35,6 @@ slice-aggregate-new c = sym (length-take-le _ _ (c .before .before .before .befo
 
 slice-aggregate-new-2 : tie.Need-slice-aggregate-new-2
 slice-aggregate-new-2 c = sym (length-take-le _ _ (c .before .before .before .before .before .before .before .before .before .before .pre .0 .in-output))
-
-slice-aggregate-new-3 : tie.Need-slice-aggregate-new-3
-slice-aggregate-new-3 c = search needs
-
-new-requires : tie.Need-new-requires
-new-requires c κs = search needs
-
-enum-known-answer : tie.Need-enum-known-answer
-enum-known-answer c = search needs
-
-enum-told : tie.Need-enum-told
-enum-told c = search needs
-
-mul-trace-end : tie.Need-mul-trace-end
-mul-trace-end c = search needs
 
 slice-aggregate-table-cells : tie.Need-slice-aggregate-table-cells
 slice-aggregate-table-cells c = sym (length-take-le _ _ (c .before .before .before .before .before .before .before .before .before .before .before .before .before .before .before .before .before .pre .0 .in-trace))
@@ -61,9 +47,6 @@ slice-aggregate-table-cells-3 c = sym (length-take-le _ _ (c .before .before .be
 
 slice-aggregate-table-cells-4 : tie.Need-slice-aggregate-table-cells-4
 slice-aggregate-table-cells-4 c = sym (length-take-le _ _ (c .before .before .before .before .before .before .before .before .before .before .before .before .before .before .before .before .before .before .before .before .pre .0 .in-jump-stack))
-
-slice-aggregate-table-cells-5 : tie.Need-slice-aggregate-table-cells-5
-slice-aggregate-table-cells-5 c = search needs
 
 table-cells-requires : tie.Need-table-cells-requires
 table-cells-requires c κs =
@@ -99,18 +82,7 @@ pub opened-cells-spec : {M : Type 1} → statement M
 opened-cells-spec =
     tie.close
     (tie.spec
-    slice-aggregate-new
-    slice-aggregate-new-2
-    slice-aggregate-new-3
-    new-requires
-    enum-known-answer
-    enum-told
-    mul-trace-end
-    slice-aggregate-table-cells
-    slice-aggregate-table-cells-2
-    slice-aggregate-table-cells-3
-    slice-aggregate-table-cells-4
-    slice-aggregate-table-cells-5
-    table-cells-requires
-    returns
+    slice-aggregate-new slice-aggregate-new-2 (λ c. search needs) (λ c κs. search needs) (λ c. search needs)
+    (λ c. search needs) (λ c. search needs) slice-aggregate-table-cells slice-aggregate-table-cells-2
+    slice-aggregate-table-cells-3 slice-aggregate-table-cells-4 (λ c. search needs) table-cells-requires returns
     returns-2)

@@ -60,15 +60,6 @@ module _ (c : tie.After-raise-multiplicity) where
   pad-done : padAnswer (longer height table) len ≡ Done
   pad-done = law.same-answer table len height (start .pre .0) (start .pre .1) ∙ done
 
-pad-requires : tie.Need-pad-requires
-pad-requires c κs = search needs
-
-enum-known-answer : tie.Need-enum-known-answer
-enum-known-answer c = search needs
-
-enum-told : tie.Need-enum-told
-enum-told c = search needs
-
 rows-below-requires : tie.Need-rows-below-requires
 rows-below-requires c κs = let start = c .before .before .before .before .before .before .before .before in omega (arith, c .before .before .before .before .pad .kept .0, start .pre .1 .within)
 
@@ -85,9 +76,6 @@ walked-cells-requires c κs =
     let e = sym (main-is at) in
     (subst (λ t. Growing t (height at)) e (growing at), subst (λ t. rows t ≤ 34) e (law.few (table at) (len at) (height at) (start at .pre .0) (start at .pre .1) (done at)))
 
-same-length : tie.Need-same-length
-same-length c = search needs
-
 returns : tie.Need-returns
 unfolding paddedAnswer
 returns c =
@@ -96,9 +84,6 @@ returns c =
     let args = start .args in
     let same = law.same-answer (args .table .now) (args .table-len) (args .height) (start .pre .0) (start .pre .1) in
     (rw (same ∙ sym (at-pad .pad .ensures .0) ∙ c .before .answer .given .1), refl)
-
-same-length-2 : tie.Need-same-length-2
-same-length-2 c = search needs
 
 returns-2 : tie.Need-returns-2
 unfolding paddedAnswer paddedCells
@@ -114,13 +99,5 @@ pub padded-cells-spec : {M : Type 1} → statement M
 padded-cells-spec =
     tie.close
     (tie.spec
-    pad-requires
-    enum-known-answer
-    enum-told
-    rows-below-requires
-    raise-multiplicity-requires
-    walked-cells-requires
-    same-length
-    returns
-    same-length-2
-    returns-2)
+    (λ c κs. search needs) (λ c. search needs) (λ c. search needs) rows-below-requires raise-multiplicity-requires
+    walked-cells-requires (λ c. search needs) returns (λ c. search needs) returns-2)

@@ -16,9 +16,6 @@ use borrow.Author.Needs.{needs}
 use Rattle.terminals_cells.proofs.unchecked.table_cells.Statement.{statement}
 use Rattle.terminals_cells.proofs.unchecked.table_cells.Tie as tie
 
-padded-height-requires : tie.Need-padded-height-requires
-padded-height-requires c κs = search needs
-
 kept-rows-requires : tie.Need-kept-rows-requires
 kept-rows-requires c κs = let high = c .padded-height .ensures in (c .before .before .before .before .before .before .pre .1, high .1, high .2)
 
@@ -68,10 +65,5 @@ pub table-cells-spec : {M : Type 1} → statement M
 table-cells-spec =
     tie.close
     (tie.spec
-    padded-height-requires
-    kept-rows-requires
-    mul-end
-    array-borrow-prefix-table
-    slice-aggregate-filled-cells
-    filled-cells-requires
-    returns)
+    (λ c κs. search needs) kept-rows-requires mul-end array-borrow-prefix-table slice-aggregate-filled-cells
+    filled-cells-requires returns)

@@ -30,18 +30,6 @@ nine n h = at-most (eqb (n % 4) 0)
 few : (c : tie.After-started-chunks) → c .started-chunks .result * 6 ≤ 54
 few c = omega (arith, c .started-chunks .ensures .0, nine (length (c .before .before .before .args .main .now) / 39) (c .before .before .before .pre .1))
 
-mul-aux-end : tie.Need-mul-aux-end
-mul-aux-end c = search needs
-
-started-chunks-requires : tie.Need-started-chunks-requires
-started-chunks-requires c κs = search needs
-
-mul-work-end : tie.Need-mul-work-end
-mul-work-end c = search needs
-
-array-borrow-prefix-aux : tie.Need-array-borrow-prefix-aux
-array-borrow-prefix-aux c = search needs
-
 slice-aggregate-extended-into : tie.Need-slice-aggregate-extended-into
 slice-aggregate-extended-into c = sym (ap length (take-zeros (length (c .before .before .before .before .args .main .now) / 39 * 33) 1122 (omega arith)) ∙ length-zeros _)
 
@@ -72,12 +60,5 @@ pub extended-cells-spec : {M : Type 1} → statement M
 extended-cells-spec =
     tie.close
     (tie.spec
-    mul-aux-end
-    started-chunks-requires
-    mul-work-end
-    array-borrow-prefix-aux
-    slice-aggregate-extended-into
-    array-borrow-prefix-work
-    slice-aggregate-extended-into-2
-    extended-into-requires
-    returns)
+    (λ c. search needs) (λ c κs. search needs) (λ c. search needs) (λ c. search needs) slice-aggregate-extended-into
+    array-borrow-prefix-work slice-aggregate-extended-into-2 extended-into-requires returns)

@@ -8,48 +8,6 @@ use borrow.Author.Needs.{needs}
 use Rattle.terminals_text.proofs.unchecked.put_line.Statement.{statement}
 use Rattle.terminals_text.proofs.unchecked.put_line.Tie as tie
 
-mul-first : tie.Need-mul-first
-mul-first c = search needs
-
-put-word-requires : tie.Need-put-word-requires
-put-word-requires c κs = search needs
-
-mul-put-word : tie.Need-mul-put-word
-mul-put-word c = search needs
-
-element-copy-out-put-word : tie.Need-element-copy-out-put-word
-element-copy-out-put-word c = search needs
-
-put-word-requires-2 : tie.Need-put-word-requires-2
-put-word-requires-2 c κs = search needs
-
-add-put-word : tie.Need-add-put-word
-add-put-word c = search needs
-
-mul-put-word-2 : tie.Need-mul-put-word-2
-mul-put-word-2 c = search needs
-
-element-copy-out-put-word-2 : tie.Need-element-copy-out-put-word-2
-element-copy-out-put-word-2 c = search needs
-
-put-word-requires-3 : tie.Need-put-word-requires-3
-put-word-requires-3 c κs = search needs
-
-add-put-word-2 : tie.Need-add-put-word-2
-add-put-word-2 c = search needs
-
-mul-put-word-3 : tie.Need-mul-put-word-3
-mul-put-word-3 c = search needs
-
-element-copy-out-put-word-3 : tie.Need-element-copy-out-put-word-3
-element-copy-out-put-word-3 c = search needs
-
-put-word-requires-4 : tie.Need-put-word-requires-4
-put-word-requires-4 c κs = search needs
-
-same-length : tie.Need-same-length
-same-length c = search needs
-
 returns : tie.Need-returns
 returns c =
     let fourth = c .before .before in
@@ -70,18 +28,6 @@ pub put-line-spec : {M : Type 1} → statement M
 put-line-spec =
     tie.close
     (tie.spec
-    mul-first
-    put-word-requires
-    mul-put-word
-    element-copy-out-put-word
-    put-word-requires-2
-    add-put-word
-    mul-put-word-2
-    element-copy-out-put-word-2
-    put-word-requires-3
-    add-put-word-2
-    mul-put-word-3
-    element-copy-out-put-word-3
-    put-word-requires-4
-    same-length
-    returns)
+    (λ c. search needs) (λ c κs. search needs) (λ c. search needs) (λ c. search needs) (λ c κs. search needs)
+    (λ c. search needs) (λ c. search needs) (λ c. search needs) (λ c κs. search needs) (λ c. search needs)
+    (λ c. search needs) (λ c. search needs) (λ c κs. search needs) (λ c. search needs) returns)

@@ -22,15 +22,6 @@ loop-holds : tie.Need-loop-holds Inv-loop μ-loop
 unfolding rowsFrom
 loop-holds c = (search needs, search needs, search needs, record { stored = refl; end = refl })
 
-put-line-requires : tie.Need-put-line-requires Inv-loop μ-loop
-put-line-requires c κs = search needs
-
-add-column : tie.Need-add-column Inv-loop μ-loop
-add-column c = search needs
-
-loop-less : tie.Need-loop-less Inv-loop μ-loop
-loop-less c = search needs
-
 loop-again : tie.Need-loop-again Inv-loop μ-loop
 unfolding rowsFrom
 loop-again c =
@@ -40,9 +31,6 @@ loop-again c =
     let column = at-loop .loop .column in
     let next = then (at-loop .loop .inv .3) (record { stored = called .ensures .1; end = called .ensures .0 .0 }) in
     (search needs, search needs, search needs, put-as next (sym (one-more-row row column)))
-
-same-length : tie.Need-same-length Inv-loop μ-loop
-same-length c = search needs
 
 returns : tie.Need-returns Inv-loop μ-loop
 unfolding lines
@@ -55,4 +43,6 @@ returns c =
 pub put-lines-spec : {M : Type 1} → statement M
 put-lines-spec =
     tie.close
-    (tie.spec Inv-loop μ-loop loop-holds put-line-requires add-column loop-less loop-again same-length returns)
+    (tie.spec
+    Inv-loop μ-loop loop-holds (λ c κs. search needs) (λ c. search needs) (λ c. search needs) loop-again
+    (λ c. search needs) returns)

@@ -52,21 +52,6 @@ ends c = growing (c .before) .window (c .if1 .taken)
 extended-cells-requires : tie.Need-extended-cells-requires
 extended-cells-requires c κs = let g = c .before .before .before .pre in (g .0 .some, g .1)
 
-enum-known-answer : tie.Need-enum-known-answer
-enum-known-answer c = search needs
-
-enum-told : tie.Need-enum-told
-enum-told c = search needs
-
-sub-row : tie.Need-sub-row
-sub-row c = search needs
-
-row-requires : tie.Need-row-requires
-row-requires c κs = search needs
-
-rows-below-requires : tie.Need-rows-below-requires
-rows-below-requires c κs = search needs
-
 walk-padding-requires : tie.Need-walk-padding-requires
 walk-padding-requires c κs =
     let at-row = c .before .before in
@@ -122,13 +107,5 @@ pub walked-cells-spec : {M : Type 1} → statement M
 walked-cells-spec =
     tie.close
     (tie.spec
-    extended-cells-requires
-    enum-known-answer
-    enum-told
-    sub-row
-    row-requires
-    rows-below-requires
-    walk-padding-requires
-    returns
-    returns-2
-    returns-3)
+    extended-cells-requires (λ c. search needs) (λ c. search needs) (λ c. search needs) (λ c κs. search needs)
+    (λ c κs. search needs) walk-padding-requires returns returns-2 returns-3)

@@ -7,7 +7,6 @@ use Rattle.text.proofs.Stores.{Put, with-byte}
 use borrow.Author.Needs.{needs}
 use Rattle.text.proofs.unchecked.put_word.Statement.{statement}
 use Rattle.text.proofs.unchecked.put_word.Tie as tie
-use Rattle.text.proofs.unchecked.put_decimal.Reads as put-decimal-reads
 
 put-decimal-requires : tie.Need-put-decimal-requires
 put-decimal-requires c κs = omega (arith, at-most-twenty (c .before .before .args .n))
@@ -18,9 +17,6 @@ slice-write-out c = omega (arith, at-most-twenty (c .before .before .before .bef
 add-result : tie.Need-add-result
 add-result c = omega (arith, at-most-twenty (c .before .before .before .before .before .args .n))
 
-same-length : tie.Need-same-length
-same-length c = search needs
-
 returns : tie.Need-returns
 returns c =
     let args = c .before .before .before .before .before .args in
@@ -30,5 +26,4 @@ returns c =
     ((all .end, omega (arith, at-most-twenty (args .n))), all .stored)
 
 pub put-word-spec : {M : Type 1} → statement M
-put-word-spec =
-    tie.close (tie.spec put-decimal-requires slice-write-out add-result same-length returns)
+put-word-spec = tie.close (tie.spec put-decimal-requires slice-write-out add-result (λ c. search needs) returns)
