@@ -26,7 +26,7 @@ map-at f a (suc n) (suc i) l =
     map-at f (suc a) n i (omega arith) ∙ ap f e
 
 -- an arm of a match on a command
-pub arm : {A : Type 0} (f : ℕ → A) {code k : ℕ} → code ≡ k → f k ≡ f code
+pub arm : (f : ℕ → ℕ) {code k : ℕ} → code ≡ k → f k ≡ f code
 arm f e = ap f (sym e)
 
 -- no command is left for the rest

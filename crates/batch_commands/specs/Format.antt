@@ -5,7 +5,6 @@ use Prim.Native.Nat.{ℕ, zero, suc}
 use lib.Dec.{eqb}
 use lib.ListN.{length, take, drop}
 use Rattle.batch_words.specs.Words.{number, words}
-use Rattle.batch_commands.specs.declared.Fixed.{Fixed}
 
 -- "01 trace rows, 4 bytes, 1–32; 02 a row, 312 bytes; 03, 04, 05 a difference for op stack, RAM, jump stack, 8; 06 the sampled challenges, 1,416;
 -- 07 program digest, 40; 08 input word, 8; 09 output word, 8; 00 end." Document 02, Three: "Command 0A carries a 312-byte row in that form, in the place of 02."
@@ -142,13 +141,6 @@ placeIn code (place ∷ places) = cond (isIn code place) zero (suc (placeIn code
 
 abbrev pub rank : ℕ → ℕ
 rank code = placeIn code table
-
--- all of it, as the code has it
-abbrev pub fixed : (width words-at words limit rank key : ℕ) → Fixed
-fixed width words-at words limit rank key = record { width = width; «words_at» = words-at; words = words; limit = limit; rank = rank; key = key }
-
-abbrev pub fixedOf : ℕ → ℕ → Fixed
-fixedOf rows code = fixed (width code) (wordsAt code) (wordCount code) (limit rows code) (rank code) (keyWidth code)
 
 -- the words of an operand; 01 and 0B have none
 abbrev pub wordsIn : ℕ → List ℕ → List ℕ

@@ -67,16 +67,6 @@ pub fn wrong_height(rows: usize, log2_height: usize) -> bool
     1 << log2_height < rows
 }
 
-// What is fixed of a command.
-pub struct Fixed {
-    pub width: usize,
-    pub words_at: usize,
-    pub words: usize,
-    pub limit: usize,
-    pub rank: usize,
-    pub key: usize,
-}
-
 // What counts for a command of those before it.
 pub struct Seen {
     // The rows that 01 announced.

@@ -1,10 +1,6 @@
 // A command whose operand stands whole at a place of the batch.
-use crate::Fixed;
 use crate::Seen;
 use crate::wrong_height;
-use air::DIGEST_WORDS;
-use air::MainIndex;
-use air::SAMPLED_WORDS;
 use batch_words::unchecked::half_at;
 use batch_words::unchecked::word_at;
 use batch_words::unchecked::words_below;
@@ -16,54 +12,30 @@ ghost use Prim.Native.Nat.{_+_, _<_, _≤_};
 ghost use lib.Dec.{eqb};
 ghost use lib.ListN.{length, take, drop, getD, set};
 ghost use Rattle.batch_words.specs.Words.{number};
-ghost use Rattle.batch_commands.specs.Format.{TRACE-ROWS, HEIGHT, COMMANDS, MAX-DIFFERENCES, width, limit, rank, key, fixed, fixedOf};
+ghost use Rattle.batch_commands.specs.Format.{TRACE-ROWS, HEIGHT, COMMANDS, MAX-DIFFERENCES, width, limit, rank, key};
 ghost use Rattle.batch_commands.specs.Fault.{rowsIn, mixed, missing, outOfPlace, outOfOrder, wrongRowCount, heightOutOfRange, judged};
 
 const MAX_ROWS: u32 = crate::MAX_ROWS as u32;
-
-fn line(width: usize, words_at: usize, words: usize, limit: usize, rank: usize, key: usize) -> Fixed
-    ensures { λ r. ⌜ r ≡ fixed width «words_at» words limit rank key ⌝ }
-{
-    Fixed {
-        width,
-        words_at,
-        words,
-        limit,
-        rank,
-        key,
-    }
-}
-
-// The table of commands, a line for each: the operand's width in bytes, where its words begin, how many they are, how often the
-// command may stand in a batch whose 01 announced `rows`, its place in the order, and its key's width.
-pub fn line_of(code: usize, rows: usize) -> Fixed
-    requires { ⌜ code < COMMANDS ⌝ }
-    ensures { λ r. ⌜ r ≡ fixedOf rows code ⌝ }
-{
-    match code {
-        crate::END => line(0, 0, 0, 1, 10, 0),
-        crate::TRACE_ROWS => line(4, 0, 0, 1, 0, 0),
-        crate::ROW => line(312, 0, MainIndex::COUNT, rows, 6, 0),
-        crate::OP_STACK => line(8, 0, 1, crate::MAX_DIFFERENCES, 7, 8),
-        crate::RAM => line(8, 0, 1, crate::MAX_DIFFERENCES, 8, 8),
-        crate::JUMP_STACK => line(8, 0, 1, crate::MAX_DIFFERENCES, 9, 8),
-        crate::SAMPLED => line(1416, 0, SAMPLED_WORDS, 1, 5, 0),
-        crate::DIGEST => line(40, 0, DIGEST_WORDS, 1, 2, 0),
-        crate::INPUT => line(8, 0, 1, crate::MAX_WORDS, 3, 0),
-        crate::OUTPUT => line(8, 0, 1, crate::MAX_WORDS, 4, 0),
-        crate::HEIGHT => line(1, 0, 0, 1, 1, 0),
-        crate::MONTGOMERY_ROW => line(312, 0, MainIndex::COUNT, rows, 6, 0),
-        _ => line(0, 0, 0, 0, 0, 0),
-    }
-}
 
 // The width of a command's operand, in bytes.
 pub fn width(code: usize) -> usize
     requires { ⌜ code < COMMANDS ⌝ }
     ensures { λ r. ⌜ r ≡ width code ⌝ }
 {
-    let line = line_of(code, 0);
-    line.width
+    match code {
+        crate::END => 0,
+        crate::TRACE_ROWS => 4,
+        crate::ROW => 312,
+        crate::OP_STACK => 8,
+        crate::RAM => 8,
+        crate::JUMP_STACK => 8,
+        crate::SAMPLED => 1416,
+        crate::DIGEST => 40,
+        crate::INPUT => 8,
+        crate::OUTPUT => 8,
+        crate::HEIGHT => 1,
+        crate::MONTGOMERY_ROW | _ => 312,
+    }
 }
 
 // A command's place in the order of a batch.
@@ -71,8 +43,20 @@ pub fn rank(code: usize) -> usize
     requires { ⌜ code < COMMANDS ⌝ }
     ensures { λ r. ⌜ r ≡ rank code ⌝ }
 {
-    let line = line_of(code, 0);
-    line.rank
+    match code {
+        crate::END => 10,
+        crate::TRACE_ROWS => 0,
+        crate::ROW => 6,
+        crate::OP_STACK => 7,
+        crate::RAM => 8,
+        crate::JUMP_STACK => 9,
+        crate::SAMPLED => 5,
+        crate::DIGEST => 2,
+        crate::INPUT => 3,
+        crate::OUTPUT => 4,
+        crate::HEIGHT => 1,
+        crate::MONTGOMERY_ROW | _ => 6,
+    }
 }
 
 // What must not descend from one command of a kind to the next: a difference, or nothing.
@@ -93,8 +77,20 @@ fn limit(rows: usize, code: usize) -> usize
     requires { ⌜ code < COMMANDS ⌝ }
     ensures { λ r. ⌜ r ≡ limit rows code ⌝ }
 {
-    let line = line_of(code, rows);
-    line.limit
+    match code {
+        crate::END => 1,
+        crate::TRACE_ROWS => 1,
+        crate::ROW => rows,
+        crate::OP_STACK => crate::MAX_DIFFERENCES,
+        crate::RAM => crate::MAX_DIFFERENCES,
+        crate::JUMP_STACK => crate::MAX_DIFFERENCES,
+        crate::SAMPLED => 1,
+        crate::DIGEST => 1,
+        crate::INPUT => crate::MAX_WORDS,
+        crate::OUTPUT => crate::MAX_WORDS,
+        crate::HEIGHT => 1,
+        crate::MONTGOMERY_ROW | _ => rows,
+    }
 }
 
 // The rows that came, in whichever form.
