@@ -1,19 +1,21 @@
 // The columns of the processor table and the challenges, by name.
+#![tactic(auto)]
+
 mod aux_column;
 mod challenge_id;
 mod main_column;
 pub mod unchecked;
 
 // Where a main column stands in a row of words.
-#[derive(Drop)]
+#[derive(Clone, Copy)]
 pub struct MainIndex(pub usize);
 
 // Where an auxiliary column stands in a row of elements.
-#[derive(Drop)]
+#[derive(Clone, Copy)]
 pub struct AuxIndex(pub usize);
 
 // Where a challenge stands in the record of elements.
-#[derive(Drop)]
+#[derive(Clone, Copy)]
 pub struct ChallengeId(pub usize);
 
 // The words of a row of auxiliary cells, of the record, and of the sampled challenges in it: three an element.

@@ -1,4 +1,6 @@
 // The names of instructions, columns and challenges, as the Rust has them, in ASCII. A name of a column or challenge belongs to the constant in its line of the list beside it.
+#![tactic(auto)]
+
 ghost use Rattle.std.specs.Prelude.{◌≡◌, ◌≤◌, length, take};
 ghost use Rattle.air_names.specs.Name.{Named, before_space};
 ghost use Rattle.air_names.specs.Instruction.{name_of, Listed};
@@ -348,7 +350,7 @@ fn challenges() -> [usize; ChallengeId::COUNT] {
     ]
 }
 
-#[derive(Drop)]
+#[derive(Clone, Copy)]
 pub struct Name {
     pub bytes: [u8; 48],
     pub length: usize,

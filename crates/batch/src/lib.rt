@@ -1,4 +1,6 @@
 // Open: it decides on its answer first, and writes only then, section by section.
+#![tactic(auto)]
+
 ghost use Rattle.std.specs.Prelude.{◌≡◌, cond, eqb, length};
 ghost use Rattle.batch_commands.specs.Format.{ROW, OP-STACK, RAM, JUMP-STACK, SAMPLED, DIGEST, INPUT, OUTPUT};
 ghost use Rattle.batch.specs.Open.{right_lengths, open_answer, open_slice};

@@ -1,4 +1,6 @@
 // The commands of a batch, one at a time: a byte, then an operand of the width that the byte says.
+#![tactic(auto)]
+
 ghost use Rattle.std.specs.Prelude.{◌≡◌, drop};
 ghost use Rattle.batch_commands.specs.Form.{row_command};
 ghost use Rattle.batch_commands.specs.Fault.{wrong_height, head_of};
@@ -68,7 +70,7 @@ pub fn wrong_height(rows: usize, log2_height: usize) -> bool
 }
 
 // What counts for a command of those before it.
-#[derive(Drop)]
+#[derive(Clone, Copy)]
 pub struct Seen {
     // The rows that 01 announced.
     pub rows: usize,
@@ -83,7 +85,7 @@ pub struct Seen {
 }
 
 // What stands at a place of a batch.
-#[derive(Drop)]
+#[derive(Clone, Copy)]
 pub enum Head {
     Unknown,
     // No byte is left, or too few for the operand.

@@ -1,4 +1,6 @@
 // The lengths of what is written.
+#![tactic(auto)]
+
 ghost use Rattle.std.specs.Prelude.{◌≡◌};
 ghost use Rattle.batch_lengths.specs.Lengths.{height_length, right_numbers};
 

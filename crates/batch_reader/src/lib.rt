@@ -1,4 +1,6 @@
 // Reading a batch from left to right.
+#![tactic(auto)]
+
 ghost use Rattle.std.specs.Prelude.{◌≡◌, ◌+◌, ◌<◌, ◌≤◌, length, drop, get_or};
 ghost use Rattle.batch_commands.specs.Format.{COMMANDS, width, MAX-DIFFERENCES};
 ghost use Rattle.batch_commands.specs.Fault.{head_of};
@@ -14,7 +16,7 @@ use refusal::{Answer, Refusal};
 mod opener;
 pub mod unchecked;
 
-#[derive(Drop)]
+#[derive(Clone, Copy)]
 pub struct Counts {
     pub rows: usize,
     pub op_stack: usize,
@@ -26,14 +28,14 @@ pub struct Counts {
     pub log2_height: usize,
 }
 
-#[derive(Drop)]
+#[derive(Clone, Copy)]
 pub enum OpenAnswer {
     Opened(Counts),
     Refused(Refusal),
 }
 
 // What the command at a place comes to.
-#[derive(Drop)]
+#[derive(Clone, Copy)]
 pub(crate) enum Step {
     Stop(OpenAnswer),
     // A command of which nothing is wrong, and not the last.

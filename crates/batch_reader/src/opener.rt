@@ -6,7 +6,7 @@ ghost use Rattle.batch_commands.specs.Fault.{head_of};
 use batch_commands::Head;
 use batch_commands::unchecked::width;
 
-#[derive(Drop)]
+#[derive(Clone, Copy)]
 pub(crate) struct Opener<'a> {
     pub(crate) batch: &'a [u8],
     // How many bytes have been read.

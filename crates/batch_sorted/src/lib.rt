@@ -1,2 +1,4 @@
 // Lists of differences in ascending order.
+#![tactic(auto)]
+
 pub mod unchecked;

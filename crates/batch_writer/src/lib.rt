@@ -1,4 +1,6 @@
 // Write: it decides on its answer first, and writes only then.
+#![tactic(auto)]
+
 ghost use Rattle.std.specs.Prelude.{◌≡◌, length};
 ghost use Rattle.batch_writer.specs.Contents.{contents_of};
 ghost use Rattle.batch_writer.specs.Write.{all_words_below, refused_height, write_answer, write_batch};

@@ -1,4 +1,6 @@
 // The record of challenges: the sampled ones, then four that follow from them and from the claim.
+#![tactic(auto)]
+
 ghost use Rattle.std.specs.Prelude.{◌≡◌, true, ◌++◌, ◌+◌, ◌*◌, ◌≤◌, length, drop};
 ghost use Rattle.std.proofs.lemmas.List.Edits.{sets};
 ghost use Rattle.field_base.specs.Words.{all_below};

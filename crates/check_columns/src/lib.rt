@@ -1,4 +1,6 @@
 // The check of columns that were made elsewhere: whether they are just those of extension.
+#![tactic(auto)]
+
 ghost use Rattle.std.specs.Prelude.{◌≡◌};
 ghost use Rattle.check_columns.specs.Check.{check_answer};
 
@@ -9,7 +11,7 @@ use extend_answer::right_lengths;
 use extend_denominators::unchecked::has_zero_denominator;
 use refusal::{MAX_LEN, Refusal};
 
-#[derive(Drop)]
+#[derive(Clone, Copy)]
 pub enum CheckAnswer {
     Checked(Verdict),
     Refused(Refusal),

@@ -1,4 +1,6 @@
 // The local relations of columns that were made elsewhere.
+#![tactic(auto)]
+
 ghost use Rattle.std.specs.Prelude.{◌≡◌, cond};
 ghost use Rattle.field.specs.Element.{same};
 ghost use Rattle.check_relations.specs.declared.Verdict.TheVariants.{No};
@@ -9,7 +11,7 @@ use field::XFieldElement;
 pub mod unchecked;
 
 // Whether all relations hold; if not, the row and the column where one fails first.
-#[derive(Drop)]
+#[derive(Clone, Copy)]
 pub enum Verdict {
     Yes,
     No(usize, AuxIndex),

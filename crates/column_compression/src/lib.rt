@@ -1,4 +1,6 @@
 // What the columns' entry functions share: a row's words read, and compressed to an element: each times its weight, summed.
+#![tactic(auto)]
+
 ghost use Rattle.std.specs.Prelude.{◌≡◌};
 ghost use Rattle.field.specs.Element.{Canonical};
 ghost use Rattle.column_entries.specs.Row.{weigh};

@@ -1,4 +1,6 @@
 // A row's fractions brought to one denominator.
+#![tactic(auto)]
+
 ghost use Rattle.std.specs.Prelude.{◌≡◌};
 ghost use Rattle.field.specs.Element.{Canonical, lift};
 ghost use Rattle.column_entries.specs.Row.{weigh};

@@ -1,4 +1,6 @@
 // What a window of two rows does to the running values of the hash input and hash digest columns.
+#![tactic(auto)]
+
 ghost use Rattle.std.specs.Prelude.{◌≡◌, ◌||◌, eqb};
 ghost use Rattle.isa.specs.Opcode.{HASH};
 ghost use Rattle.column_entries.specs.Entries.{is_merkle_step};

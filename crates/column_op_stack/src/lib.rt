@@ -1,4 +1,6 @@
 // The factor that a window brings to the op stack's product column.
+#![tactic(auto)]
+
 ghost use Rattle.std.specs.Prelude.{◌≡◌};
 ghost use Rattle.column_entries.specs.Entries.{shorter, height_change};
 

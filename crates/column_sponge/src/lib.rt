@@ -1,4 +1,6 @@
 // What a window of two rows does to the running value of the sponge column.
+#![tactic(auto)]
+
 ghost use Rattle.std.specs.Prelude.{◌≡◌, ◌∷◌, ◌++◌};
 ghost use Rattle.air.specs.MainColumn.{ST1, HV0};
 ghost use Rattle.field.specs.Weighed.{weighed_of, Few};

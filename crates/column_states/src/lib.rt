@@ -1,4 +1,6 @@
 // The words that the hash input and sponge columns absorb, under their weights.
+#![tactic(auto)]
+
 ghost use Rattle.std.specs.Prelude.{◌≡◌, ◌∷◌, map, get_or};
 ghost use Rattle.air.specs.Count.{up_to};
 ghost use Rattle.field.specs.Element.{zero};

@@ -1,4 +1,6 @@
 // What a window of two rows brings to the u32 lookup's column.
+#![tactic(auto)]
+
 ghost use Rattle.std.specs.Prelude.{◌≡◌, false, List, [], ℕ};
 ghost use Rattle.field.specs.declared.XFieldElement.{XFieldElement};
 ghost use Rattle.air.specs.MainColumn.{CI};

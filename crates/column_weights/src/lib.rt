@@ -1,2 +1,4 @@
 // The indeterminates and weights of the columns, out of the record of challenges.
+#![tactic(auto)]
+
 pub mod unchecked;

@@ -1,4 +1,6 @@
 // Extension: the auxiliary table of the processor, eleven columns of three words.
+#![tactic(auto)]
+
 ghost use Rattle.std.specs.Prelude.{◌≡◌, length, replicate};
 ghost use Rattle.refusal.specs.Number.{on_done};
 ghost use Rattle.extend_table.specs.Extended.{extended};

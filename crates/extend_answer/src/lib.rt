@@ -1,4 +1,6 @@
 // What extension answers, strict or not, before it writes a word.
+#![tactic(auto)]
+
 ghost use Rattle.std.specs.Prelude.{◌≡◌, true, cond, not};
 ghost use Rattle.refusal.specs.declared.Answer.TheVariants.{Refused};
 ghost use Rattle.refusal.specs.declared.Refusal.TheVariants.{WordNotBelowP};

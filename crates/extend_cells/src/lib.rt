@@ -1,4 +1,6 @@
 // The running values of the eleven columns: before any row, and in a row of the auxiliary table.
+#![tactic(auto)]
+
 ghost use Rattle.std.specs.Prelude.{◌≡◌, []};
 ghost use Rattle.extend_cells.specs.Cells.{running_cells};
 
@@ -7,7 +9,7 @@ use field::XFieldElement;
 pub mod unchecked;
 
 // In the order of the columns.
-#[derive(Drop)]
+#[derive(Clone, Copy)]
 pub struct Cells {
     pub input: XFieldElement,
     pub output: XFieldElement,

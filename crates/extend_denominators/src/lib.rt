@@ -1,2 +1,4 @@
 // The denominators of a table's fractions, row by row.
+#![tactic(auto)]
+
 pub mod unchecked;

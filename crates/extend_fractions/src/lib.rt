@@ -1,10 +1,12 @@
 // The fractions of a window in the three lookup columns.
+#![tactic(auto)]
+
 use column_entries::RowFraction;
 use field::XFieldElement;
 
 pub mod unchecked;
 
-#[derive(Drop)]
+#[derive(Clone, Copy)]
 pub struct Fractions {
     pub instruction: RowFraction,
     pub u32_lookup: RowFraction,
@@ -12,7 +14,7 @@ pub struct Fractions {
 }
 
 // Each fraction divided out.
-#[derive(Drop)]
+#[derive(Clone, Copy)]
 pub struct Quotients {
     pub instruction: XFieldElement,
     pub u32_lookup: XFieldElement,

@@ -1,4 +1,6 @@
 // The running values of the eleven columns, taken on through many padding rows.
+#![tactic(auto)]
+
 ghost use Rattle.std.specs.Prelude.{◌≡◌};
 ghost use Rattle.extend_cells.specs.Cells.{cells_of};
 

@@ -1,4 +1,6 @@
 // The field of the p^3 elements. A public operation turns away a word that is not below p.
+#![tactic(auto)]
+
 ghost use Rattle.std.specs.Prelude.{◌&&◌, ◌≡◌, [], ◌∷◌};
 ghost use Rattle.field.specs.Element.{canonical, is_zero, zero, one, X};
 ghost use Rattle.field.specs.Answers.{element_add, element_sub, element_mul, element_scale, element_inverse};
@@ -11,7 +13,7 @@ pub mod reducing;
 pub mod unchecked;
 
 // c0 + typeof.c1.X + typeof.c2.X² modulo X³ - X + 1.
-#[derive(Drop)]
+#[derive(Clone, Copy)]
 pub struct XFieldElement {
     pub c0: u64,
     pub c1: u64,
@@ -45,7 +47,7 @@ impl XFieldElement {
     }
 }
 
-#[derive(Drop)]
+#[derive(Clone, Copy)]
 pub enum ElementAnswer {
     Element(XFieldElement),
     Refused(Refusal),

@@ -1,4 +1,6 @@
 // Arithmetic modulo p = 2^64 - 2^32 + 1. A public operation turns away a word that is not below p.
+#![tactic(auto)]
+
 ghost use Rattle.std.specs.Prelude.{◌≡◌};
 ghost use Rattle.field_base.specs.Words.{all_below};
 ghost use Rattle.field_base.specs.Answers.{base_add, base_sub, base_mul, base_inverse};
@@ -11,7 +13,7 @@ pub mod unchecked;
 
 pub const P: u64 = 18446744069414584321;
 
-#[derive(Drop)]
+#[derive(Clone, Copy)]
 pub enum BaseAnswer {
     Word(u64),
     Refused(Refusal),

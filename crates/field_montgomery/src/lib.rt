@@ -1,4 +1,6 @@
 // Base elements in Montgomery form: v is kept as v·2^64 modulo p. A public operation turns away a word that is not below p.
+#![tactic(auto)]
+
 ghost use Rattle.std.specs.Prelude.{◌≡◌};
 ghost use Rattle.field_montgomery.specs.Answers.{to_answer, from_answer, montgomery_add, montgomery_mul, montgomery_inverted};
 
@@ -6,7 +8,7 @@ use field_base::{BaseAnswer, P};
 use refusal::Refusal;
 
 // How a base element is kept: as itself, or in Montgomery form.
-#[derive(Drop)]
+#[derive(Clone, Copy)]
 pub enum Form {
     Plain,
     Montgomery,

@@ -1,4 +1,6 @@
 // The way from a batch to the text that the program `inspect` prints of it.
+#![tactic(auto)]
+
 ghost use Rattle.std.specs.Prelude.{◌≡◌, ◌≤◌, length};
 ghost use Rattle.std.proofs.lemmas.List.Edits.{sets};
 ghost use Rattle.batch_commands.specs.Format.{ROW, MAX-DIFFERENCES, MAX-WORDS};

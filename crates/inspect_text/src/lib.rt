@@ -1,2 +1,4 @@
 // The text that the program `inspect` prints of a trace.
+#![tactic(auto)]
+
 pub mod unchecked;

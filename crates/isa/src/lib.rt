@@ -1,11 +1,13 @@
 // Triton VM's instructions.
+#![tactic(auto)]
+
 ghost use Rattle.std.specs.Prelude.{◌≡◌};
 ghost use Rattle.isa.specs.Instruction.{opcode_of, influence_of};
 
 pub mod opcodes;
 
 // An instruction with its argument.
-#[derive(Drop)]
+#[derive(Clone, Copy)]
 pub enum Instruction {
     // The operational stack.
     Push(u64),
@@ -73,7 +75,7 @@ pub enum Instruction {
 }
 
 // By how many elements an instruction changes the stack's height.
-#[derive(Drop)]
+#[derive(Clone, Copy)]
 pub enum Influence {
     Grows(u64),
     Shrinks(u64),

@@ -1,4 +1,6 @@
 // What a row of the processor table decodes to.
+#![tactic(auto)]
+
 ghost use Rattle.std.specs.Prelude.{◌≡◌};
 ghost use Rattle.isa.specs.Instruction.{stack_element, number_of_words, allowed};
 ghost use Rattle.isa_decoding.specs.Decode.{decoded};
@@ -12,7 +14,7 @@ use isa::Instruction;
 use refusal::Refusal;
 
 // What the words CI and NIA stand for.
-#[derive(Drop)]
+#[derive(Clone, Copy)]
 pub enum Decoded {
     Read(Instruction),
     // No instruction has the opcode.
@@ -22,7 +24,7 @@ pub enum Decoded {
 }
 
 // The classes that have limits.
-#[derive(Drop)]
+#[derive(Clone, Copy)]
 pub enum Class {
     // 0 to 15: the stack's elements ST0 to ST15.
     StackElement,
@@ -31,7 +33,7 @@ pub enum Class {
 }
 
 // What decoding a row answers.
-#[derive(Drop)]
+#[derive(Clone, Copy)]
 pub enum DecodeAnswer {
     Refused(Refusal),
     Row(Decoded),
@@ -47,7 +49,7 @@ const NUMBER_OF_WORDS: u8 = 2;
 const NO_OPCODE: u8 = 3;
 
 // The test that the argument must pass, and the instruction if it does.
-#[derive(Drop)]
+#[derive(Clone, Copy)]
 struct Candidate(u8, Instruction);
 
 fn candidate_of(opcode: u8, argument: u64) -> Candidate

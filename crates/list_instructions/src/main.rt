@@ -1,5 +1,7 @@
 // Compares the instructions with the list on standard input, which list.py takes from the Rust.
 // Each word below 512, and each of them with 2^32 added, is decoded with the arguments 0 to 16 and p - 1.
+#![tactic(auto)]
+
 ghost use Rattle.std.specs.Prelude.{◌<◌, ◌≤◌};
 
 use isa::Influence;

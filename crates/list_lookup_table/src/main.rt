@@ -1,8 +1,14 @@
 // Compares tip5's published table, on standard input as lines of three digits, with the const of `tip5`.
+#![tactic(auto)]
+
 ghost use Rattle.std.specs.Prelude.{◌≡◌, ◌≤◌};
 
-use libc::{STDIN_FILENO, STDOUT_FILENO};
 use tip5::LOOKUP_TABLE;
+
+// The streams by their numbers, as `io` takes them.
+const STDIN: i32 = 0;
+
+const STDOUT: i32 = 1;
 
 // More than a byte: a line that is missing, or a character that is no digit.
 const NO_BYTE: u64 = 1000;
@@ -32,13 +38,13 @@ fn published(text: &[u8], i: usize) -> u64 {
 }
 
 fn print_difference(i: usize, there: u64, here: u64) {
-    io::write_all(STDOUT_FILENO, b"entry ");
-    io::print_decimal(STDOUT_FILENO, i as u64);
-    io::write_all(STDOUT_FILENO, b": published ");
-    io::print_decimal(STDOUT_FILENO, there);
-    io::write_all(STDOUT_FILENO, b", here ");
-    io::print_decimal(STDOUT_FILENO, here);
-    io::write_all(STDOUT_FILENO, b"\n");
+    io::write_all(STDOUT, b"entry ");
+    io::print_decimal(STDOUT, i as u64);
+    io::write_all(STDOUT, b": published ");
+    io::print_decimal(STDOUT, there);
+    io::write_all(STDOUT, b", here ");
+    io::print_decimal(STDOUT, here);
+    io::write_all(STDOUT, b"\n");
 }
 
 // Prints each entry that differs, and answers how many do.
@@ -59,10 +65,10 @@ fn compare(text: &[u8]) -> u64 {
 
 fn main() {
     let mut text = io::buffer();
-    let n = io::read_full(STDIN_FILENO, &mut text);
+    let n = io::read_full(STDIN, &mut text);
     let differences = compare(&text[..n]);
-    io::print_decimal(STDOUT_FILENO, (n / 4) as u64);
-    io::write_all(STDOUT_FILENO, b" bytes, ");
-    io::print_decimal(STDOUT_FILENO, differences);
-    io::write_all(STDOUT_FILENO, b" differences\n");
+    io::print_decimal(STDOUT, (n / 4) as u64);
+    io::write_all(STDOUT, b" bytes, ");
+    io::print_decimal(STDOUT, differences);
+    io::write_all(STDOUT, b" differences\n");
 }

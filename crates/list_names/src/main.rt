@@ -1,22 +1,26 @@
 // Prints each instruction, column and challenge by name, with its opcode or its place; list.py takes the same lines from the Rust.
+#![tactic(auto)]
+
 use air::{AuxIndex, ChallengeId, MainIndex};
 use air_names::Name;
 use isa_decoding::Decoded;
-use libc::STDOUT_FILENO;
+
+// The streams by their numbers, as `io` takes them.
+const STDOUT: i32 = 1;
 
 fn print_start(text: &[u8], length: usize) {
     if length <= text.len() {
-        io::write_all(STDOUT_FILENO, &text[..length]);
+        io::write_all(STDOUT, &text[..length]);
     }
 }
 
 fn print_line(kind: &[u8], name: Name, number: u64) {
     let bytes = name.bytes;
-    io::write_all(STDOUT_FILENO, kind);
+    io::write_all(STDOUT, kind);
     print_start(&bytes, name.length);
-    io::write_all(STDOUT_FILENO, b" ");
-    io::print_decimal(STDOUT_FILENO, number);
-    io::write_all(STDOUT_FILENO, b"\n");
+    io::write_all(STDOUT, b" ");
+    io::print_decimal(STDOUT, number);
+    io::write_all(STDOUT, b"\n");
 }
 
 // The instruction that a word decodes to. Every instruction that has an argument takes 1.

@@ -1,9 +1,15 @@
 // Replays document 01's values to hold that are not proved in `terms_cases`, from lines on standard input, written by hand from its text:
 // an operation, the table's rows, `table_len` or a difference, and the answer.
+#![tactic(auto)]
+
 ghost use Rattle.std.specs.Prelude.{◌≤◌};
 
 use air::MainIndex;
-use libc::{STDIN_FILENO, STDOUT_FILENO};
+
+// The streams by their numbers, as `io` takes them.
+const STDIN: i32 = 0;
+
+const STDOUT: i32 = 1;
 
 // A line with its end: an operation of four letters, two numbers of two digits, an answer.
 const LINE: usize = 13;
@@ -86,9 +92,9 @@ fn differences(text: &[u8]) -> u64 {
 
 fn main() {
     let mut text = io::buffer();
-    let n = io::read_full(STDIN_FILENO, &mut text);
-    io::print_decimal(STDOUT_FILENO, (n / LINE) as u64);
-    io::write_all(STDOUT_FILENO, b" values, ");
-    io::print_decimal(STDOUT_FILENO, differences(&text[..n]));
-    io::write_all(STDOUT_FILENO, b" differences\n");
+    let n = io::read_full(STDIN, &mut text);
+    io::print_decimal(STDOUT, (n / LINE) as u64);
+    io::write_all(STDOUT, b" values, ");
+    io::print_decimal(STDOUT, differences(&text[..n]));
+    io::write_all(STDOUT, b" differences\n");
 }

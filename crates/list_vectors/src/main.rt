@@ -1,10 +1,16 @@
 // Replays the original's answers: batches on standard input, each with the number and the last row's cells that the original gives.
 // `vectors`, a program of bindings/oracle, writes the file `stdin` by the original's own files: the number, the batch's length in
 // two bytes, the batch, and `AUX_WORDS` words, little-endian, zeros where the original panics.
+#![tactic(auto)]
+
 ghost use Rattle.std.specs.Prelude.{◌≤◌};
 
 use air::AUX_WORDS;
-use libc::{STDIN_FILENO, STDOUT_FILENO};
+
+// The streams by their numbers, as `io` takes them.
+const STDIN: i32 = 0;
+
+const STDOUT: i32 = 1;
 
 // More than the file holds.
 const MOST: u64 = 1000;
@@ -60,9 +66,9 @@ fn read_and_compare(number: u8, n: usize, batch: &mut [u8]) -> bool {
     if batch.len() < n {
         return false;
     }
-    io::read_full(STDIN_FILENO, &mut batch[..n]);
+    io::read_full(STDIN, &mut batch[..n]);
     let mut expected = [0u8; AUX_WORDS * 8];
-    io::read_full(STDIN_FILENO, &mut expected);
+    io::read_full(STDIN, &mut expected);
     agrees(number, &batch[..n], &expected)
 }
 
@@ -71,7 +77,7 @@ fn next_vector() -> u64
     ensures { result ≤ 2 }
 {
     let mut head = [0u8; 3];
-    if io::read_full(STDIN_FILENO, &mut head) < 3 {
+    if io::read_full(STDIN, &mut head) < 3 {
         return 0;
     }
     let mut batch = [0u8; batch::MAX_LEN];
@@ -96,8 +102,8 @@ fn main() {
             differences += 1;
         }
     }
-    io::print_decimal(STDOUT_FILENO, vectors);
-    io::write_all(STDOUT_FILENO, b" vectors, ");
-    io::print_decimal(STDOUT_FILENO, differences);
-    io::write_all(STDOUT_FILENO, b" differences\n");
+    io::print_decimal(STDOUT, vectors);
+    io::write_all(STDOUT, b" vectors, ");
+    io::print_decimal(STDOUT, differences);
+    io::write_all(STDOUT, b" differences\n");
 }

@@ -1,11 +1,13 @@
 // What an operation answers when it turns its input away. Nothing that was lent has changed then.
+#![tactic(auto)]
+
 ghost use Rattle.std.specs.Prelude.{◌≡◌};
 ghost use Rattle.refusal.specs.Number.{number_of, answer_number_of};
 
 // A table with more rows is long, and so is a list with more words.
 pub const MAX_LEN: usize = 4194304;
 
-#[derive(Drop)]
+#[derive(Clone, Copy)]
 pub enum Refusal {
     SliceLength,
     WordNotBelowP,
@@ -22,7 +24,7 @@ pub enum Refusal {
 }
 
 // The answer of an operation that has no value of its own.
-#[derive(Drop)]
+#[derive(Clone, Copy)]
 pub enum Answer {
     Done,
     Refused(Refusal),

@@ -1,10 +1,12 @@
 // Prefix scans over any associative step, and the affine maps among their items.
+#![tactic(auto)]
+
 use field::XFieldElement;
 
 pub mod unchecked;
 
 // r → a·r + b.
-#[derive(Drop)]
+#[derive(Clone, Copy)]
 pub struct AffineMap {
     pub a: XFieldElement,
     pub b: XFieldElement,

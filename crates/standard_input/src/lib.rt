@@ -1,29 +1,27 @@
 // Standard input, as the programs read it.
+#![tactic(auto)]
+
 ghost use Rattle.std.specs.Prelude.{length};
 ghost use Rattle.standard_input.specs.Input.{Within};
 
-use libc::STDIN_FILENO;
+use std::io::Read;
 
-#[derive(Drop)]
+#[derive(Clone, Copy)]
 pub enum Input {
     // How many bytes were read.
     Bytes(usize),
     Unreadable,
 }
 
-// Reads standard input to its end, or until the buffer is full. A read that a signal interrupts counts as one that fails, since
-// `libc` does not say why one failed; the programs handle no signal, so none interrupts it.
-pub fn read_input(buffer: &mut [u8]) -> Input
+// Reads the input to its end, or until the buffer is full.
+pub fn read_input<R: Read>(input: &mut R, buffer: &mut [u8]) -> Input
     ensures { Within result (length buffer.new) }
 {
     let mut n = 0;
     while n < buffer.len() {
-        let rest = &mut buffer[n..];
-        let got = libc::read(STDIN_FILENO, rest);
-        if got < 0 {
+        let Ok(more) = input.read(&mut buffer[n..]) else {
             return Input::Unreadable;
-        }
-        let more = io::count(got, rest);
+        };
         if more == 0 {
             break;
         }

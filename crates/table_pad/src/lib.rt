@@ -1,4 +1,6 @@
 // Padding below the trace, and the height of the table that holds it.
+#![tactic(auto)]
+
 ghost use Rattle.std.specs.Prelude.{◌≡◌, ◌+◌, ◌-◌, ◌*◌, ◌≤◌, ◌<◌, length, set};
 ghost use Rattle.air.specs.MainColumn.{MAIN-WIDTH};
 ghost use Rattle.table_rows.specs.Rows.{rows, row_at};

@@ -1,5 +1,7 @@
 // The C ABI. A slice is a pointer and a count. Every function answers 0 or the number of the refusal,
 // and writes nothing on a refusal.
+#![tactic(auto)]
+
 ghost use Rattle.std.specs.Prelude.{◌≡◌, length};
 ghost use Rattle.field_base.specs.Answers.{base_add, base_sub, base_mul, base_inverse};
 ghost use Rattle.field_montgomery.specs.Answers.{to_answer, from_answer, montgomery_add, montgomery_mul, montgomery_inverted};

@@ -1,4 +1,6 @@
 // How arguments and answers pass the C ABI.
+#![tactic(auto)]
+
 ghost use Rattle.std.specs.Prelude.{◌≡◌};
 ghost use Rattle.isa_decoding.specs.Answer.{class_word, decoded_words};
 ghost use Rattle.tealbobbin_answers.specs.Decode.{decode_number_into, decode_into};

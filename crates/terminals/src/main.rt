@@ -1,16 +1,22 @@
 // Prints the cells of the last row that the batch on standard input leads to, or the first refusal. Where a read fails it prints
 // nothing, and says so on standard error.
-use libc::{STDERR_FILENO, STDOUT_FILENO};
+#![tactic(auto)]
+
 use standard_input::{Input, read_input};
 
-fn main() {
+// The streams by their numbers, as `io` takes them.
+const STDOUT: i32 = 1;
+
+const STDERR: i32 = 2;
+
+fn main(rt: HostRuntime) {
     // One byte over the limit, so that a longer batch is seen to be too long.
     let mut batch = [0u8; batch::MAX_LEN + 1];
-    let Input::Bytes(n) = read_input(&mut batch) else {
-        io::write_all(STDERR_FILENO, b"terminals: a read of the batch failed\n");
+    let Input::Bytes(n) = read_input(&mut rt.stdin(), &mut batch) else {
+        io::write_all(STDERR, b"terminals: a read of the batch failed\n");
         return;
     };
     let mut text = [0u8; 1024];
     let length = terminals_report::report(&batch[..n], &mut text);
-    io::write_all(STDOUT_FILENO, &text[..length]);
+    io::write_all(STDOUT, &text[..length]);
 }

@@ -1,4 +1,6 @@
 // The way from a batch to the last cells of its table.
+#![tactic(auto)]
+
 ghost use Rattle.std.specs.Prelude.{◌≡◌};
 ghost use Rattle.refusal.specs.Number.{on_done};
 ghost use Rattle.terminals_cells.specs.Terminals.{terminals_answer, terminals_cells};

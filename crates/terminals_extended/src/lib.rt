@@ -1,2 +1,4 @@
 // The last row of the extension of a table of a few rows.
+#![tactic(auto)]
+
 pub mod unchecked;

@@ -1,4 +1,6 @@
 // The text that the program `terminals` prints of a batch.
+#![tactic(auto)]
+
 ghost use Rattle.std.specs.Prelude.{◌≡◌, ◌≤◌, length};
 ghost use Rattle.std.proofs.lemmas.List.Edits.{sets};
 ghost use Rattle.terminals_report.specs.Text.{terminals_text};

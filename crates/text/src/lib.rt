@@ -1,2 +1,4 @@
 // Numbers and refusals as the programs print them, in ASCII.
+#![tactic(auto)]
+
 pub mod unchecked;

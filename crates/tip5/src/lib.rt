@@ -1,4 +1,6 @@
 // The table of tip5's S-box.
+#![tactic(auto)]
+
 ghost use Rattle.std.specs.Prelude.{◌≡◌, ◌<◌};
 ghost use Rattle.tip5.specs.LookupTable.{lookup_byte, lookup_table};
 
