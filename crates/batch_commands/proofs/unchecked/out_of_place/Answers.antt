@@ -1,0 +1,34 @@
+-- The tests in order.
+use borrow.Author.Rules.{rules}
+use borrow.Author.Tests.{eq-eqb, ne_eqb, le-leb, lt-leb}
+use mathlib.Core.Path.{◌≡◌}
+use mathlib.Core.Bool.{false, not, ◌&&◌}
+use mathlib.Core.Logic.{⊎_elim}
+use lib.Dec.{eqb}
+use lib.ListN.{get_or}
+use Rattle.batch_commands.proofs.unchecked.out_of_place.Goals as goal
+
+in_first : (c : goal.Joined-came-eq0) → let args = c.args in (eqb (get_or args.t2 1 0) 0 && not (eqb args.code 1)) ≡ false
+in_first c =
+    ⊎_elim
+    (λ x. rw (eq-eqb _ 0 x.0.taken, eq-eqb _ 1 x.1.left))
+    (λ x. rw (ne_eqb _ 0 x.left))
+    c.if-came-eq0.branch
+
+pub returns-then-code-ne-TRACE_ROWS : goal.returns-then-code-ne-TRACE_ROWS
+returns-then-code-ne-TRACE_ROWS c = rw (eq-eqb _ 0 c.if-came-eq0.true, ne_eqb _ 1 c.if-code-ne-TRACE_ROWS.true)
+
+pub returns-then-limit-count : goal.returns-then-limit-count
+returns-then-limit-count c = rw (in_first c, ← c.limit.ensures, ← c.count.ensures, le-leb _ _ c.if-limit-count.true)
+
+pub returns-then-mixed : goal.returns-then-mixed
+returns-then-mixed c = rw (in_first c, ← c.limit.ensures, ← c.count.ensures, lt-leb _ _ c.if-limit-count.false, ← c.mixed.ensures, c.if-mixed.true)
+
+pub returns-then-code-ne-END : goal.returns-then-code-ne-END
+returns-then-code-ne-END c = rw (in_first c, ← c.limit.ensures, ← c.count.ensures, lt-leb _ _ c.if-limit-count.false, ← c.mixed.ensures, c.if-mixed.false, ne_eqb _ 0 c.if-code-ne-END.true)
+
+pub returns-then-missing : goal.returns-then-missing
+returns-then-missing c = rw (in_first c, ← c.limit.ensures, ← c.count.ensures, lt-leb _ _ c.if-limit-count.false, ← c.mixed.ensures, c.if-mixed.false, eq-eqb _ 0 c.if-code-ne-END.false, ← c.missing.ensures, c.if-missing.true)
+
+pub returns : goal.returns
+returns c = rw (in_first c, ← c.limit.ensures, ← c.count.ensures, lt-leb _ _ c.if-limit-count.false, ← c.mixed.ensures, c.if-mixed.false, eq-eqb _ 0 c.if-code-ne-END.false, ← c.missing.ensures, c.if-missing.false)

@@ -1,0 +1,6 @@
+-- The rows are counted in their form.
+use borrow.Author.Rules.{rules}
+use Rattle.batch_reader.proofs.counts_in.Goals as goal
+
+pub returns : goal.returns
+returns c = rw c.rows_in.ensures

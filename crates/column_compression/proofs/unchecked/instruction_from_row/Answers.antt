@@ -1,0 +1,6 @@
+-- By the contracts of what it calls.
+use borrow.Author.Rules.{rules}
+use Rattle.column_compression.proofs.unchecked.instruction_from_row.Goals as goal
+
+pub returns : goal.returns
+returns c = cc

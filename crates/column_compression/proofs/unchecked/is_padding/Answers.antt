@@ -1,0 +1,6 @@
+-- The test is the definition's.
+use borrow.Author.Rules.{rules}
+use Rattle.column_compression.proofs.unchecked.is_padding.Goals as goal
+
+pub returns : goal.returns
+returns c = rw c.word_at.ensures

@@ -1,0 +1,6 @@
+-- The entry of the compressed words.
+use borrow.Author.Rules.{rules}
+use Rattle.column_fractions.proofs.unchecked.lookup_fraction.Goals as goal
+
+pub returns : goal.returns
+returns c = cc

@@ -1,0 +1,18 @@
+-- What was read lies within its buffer, and the text within its own.
+use mathlib.Core.Path.{sym}
+use native.Mathlib.Omega.{arith}
+use lib.Seq.{length-sets, length-take-le}
+use borrow.Author.Rules.{rules}
+use Rattle.inspect.proofs.main.Goals as goal
+
+pub slice_bounds-batch-end : goal.slice_bounds-batch-end
+slice_bounds-batch-end c = rw c.in-Bytes.is at c.read_input.ensures
+
+pub slice_bounds-text-end : goal.slice_bounds-text-end
+slice_bounds-text-end c = rw c.report-length.ensures.text (simp length-sets (omega arith))
+
+pub slice_bounds-report-end : goal.slice_bounds-report-end
+slice_bounds-report-end c = sym (length-take-le _ _ (array-share-prefix-batch c))
+
+pub slice_bounds-write_all-end-2 : goal.slice_bounds-write_all-end-2
+slice_bounds-write_all-end-2 c = sym (length-take-le _ _ (array-share-prefix-text c))

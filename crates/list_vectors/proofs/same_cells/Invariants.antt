@@ -1,0 +1,10 @@
+-- One turn a cell.
+use borrow.Author.Rules.{rules}
+use Prim.Native.Nat.{◌-◌, ◌≤◌}
+use Rattle.list_vectors.proofs.same_cells.Given as goal
+
+abbrev pub invariant-loop-k : goal.invariant-loop-k
+invariant-loop-k l = l.k ≤ 33
+
+abbrev pub decreases-loop-k : goal.decreases-loop-k
+decreases-loop-k l = 33 - l.k

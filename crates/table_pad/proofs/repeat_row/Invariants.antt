@@ -1,0 +1,16 @@
+-- The words below the clock copied one by one, from where nothing is written.
+use borrow.Author.Rules.{rules}
+use mathlib.Core.Path.{◌≡◌, refl}
+use Prim.Native.Nat.{◌+◌, ◌-◌, ◌*◌, ◌≤◌}
+use native.Mathlib.Numerals.{add-one}
+use native.Mathlib.Omega.{arith}
+use lib.ListN.{length, drop}
+use lib.Seq.{paste, paste-zero}
+use Rattle.table_pad.proofs.Padded.{paste_above, repeated}
+use Rattle.table_pad.proofs.repeat_row.Given as goal
+
+abbrev pub invariant-loop-i : goal.invariant-loop-i
+invariant-loop-i l = (l.i ≤ 38) × (length l.table ≡ length l.initial.table) × (l.table ≡ paste l.initial.table l.to (drop l.from l.initial.table) l.i)
+
+abbrev pub decreases-loop-i : goal.decreases-loop-i
+decreases-loop-i l = 38 - l.i

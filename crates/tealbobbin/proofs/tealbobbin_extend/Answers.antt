@@ -1,0 +1,9 @@
+-- What `extend` answers and leaves.
+use borrow.Author.Rules.{rules}
+use mathlib.Core.Path.{ap, ◌∙◌}
+use Rattle.refusal.specs.Number.{answer_number_of}
+use Rattle.tealbobbin.proofs.tealbobbin_extend.Goals as goal
+
+pub returns : goal.returns
+returns c =
+    (c.answer_number.ensures ∙ ap answer_number_of c.extend.ensures.answer, c.extend.ensures.REST1)

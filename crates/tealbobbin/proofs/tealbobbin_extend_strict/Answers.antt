@@ -1,0 +1,9 @@
+-- What `extend_strict` answers and leaves.
+use borrow.Author.Rules.{rules}
+use mathlib.Core.Path.{ap, ◌∙◌}
+use Rattle.refusal.specs.Number.{answer_number_of}
+use Rattle.tealbobbin.proofs.tealbobbin_extend_strict.Goals as goal
+
+pub returns : goal.returns
+returns c =
+    (c.answer_number.ensures ∙ ap answer_number_of c.extend_strict.ensures.answer, c.extend_strict.ensures.REST1)

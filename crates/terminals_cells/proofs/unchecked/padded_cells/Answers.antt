@@ -1,0 +1,63 @@
+-- The rows at hand are padded, and walked on as the first rows of the padded table.
+use mathlib.Core.Path.{◌≡◌, refl, sym, ap, subst, ◌∙◌}
+use mathlib.Core.List.{List}
+use Prim.Native.Nat.{ℕ, ◌-◌, ◌≤◌}
+use native.Mathlib.Omega.{arith}
+use Rattle.refusal.specs.Number.{on_done}
+use Rattle.refusal.specs.declared.Answer.TheVariants.{Done}
+use Rattle.table_rows.specs.Rows.{rows}
+use Rattle.table_rows.specs.Writes.{raised}
+use Rattle.table_pad.specs.Pad.{pad_answer, pad_table}
+use Rattle.terminals_extended.specs.Extended.{extendedAnswer, extendedCells}
+use Rattle.terminals_walk.specs.Grown.{grown, Growing}
+use Rattle.terminals_cells.specs.Terminals.{after, paddedAnswer, paddedCells}
+use Rattle.terminals_cells.specs.Kept.{longer}
+use Rattle.terminals_cells.proofs.Padded as law
+use borrow.Author.Rules.{rules}
+use Rattle.terminals_cells.proofs.unchecked.padded_cells.Goals as goal
+
+pub rows_below-more-requires : goal.rows_below-more-requires
+rows_below-more-requires c = omega (arith, c.pad-answer.auto.0, c.requires.kept.within)
+
+pub raise_multiplicity-requires : goal.raise_multiplicity-requires
+raise_multiplicity-requires c =
+    (omega (arith, c.pad-answer.auto.0, c.requires.kept.two), omega (arith, c.rows_below-more.ensures, c.requires.kept.short))
+
+pub walked_cells-requires : goal.walked_cells-requires
+walked_cells-requires c =
+    let told = counted in
+    let at-pad = told in
+    let start = at-pad in
+    let table : List ℕ = start.args.table.now in
+    let len : ℕ = start.args.table-len in
+    let height : ℕ = start.args.height in
+    let done : pad_answer table len ≡ Done = sym at-pad.pad.ensures.0 ∙ told.enum_told.given.1 in
+    let main : List ℕ = law.main table len height start.pre.0 start.pre.1 done in
+    let main-is : c.raise_multiplicity.new.table ≡ main = let e : counted.rows-below.result ≡ height - rows table = omega (arith, counted.rows-below.ensures, at-pad.pad.kept.0) in
+    c.raise_multiplicity.ensures ∙ (λ i. raised (at-pad.pad.ensures.1 i) 1 (e i)) in
+    let growing : Growing main height = law.growing table len height start.pre.0 start.pre.1 done in
+    let e = sym (main-is) in record { growing = subst (λ t. Growing t (height)) e (growing); main_bound = subst (λ t. rows t ≤ 34) e (law.few (table) (len) (height) (start).requires.0 (start).requires.1 (done)) }
+
+pub returns-in-Refused : goal.returns-in-Refused
+unfolding paddedAnswer
+returns-in-Refused c =
+    let args = c.args in
+    let same = law.same_answer args.table.now args.table-len args.height c.requires.table_value c.requires.kept in record { answer = rw (same ∙ sym c.pad-answer.ensures.answer ∙ c.in-Refused.is); cells = refl }
+
+pub returns-in-Done : goal.returns-in-Done
+unfolding paddedAnswer paddedCells
+returns-in-Done c =
+    let told = counted in
+    let at-pad = told in
+    let start = at-pad in
+    let table : List ℕ = start.args.table.now in
+    let len : ℕ = start.args.table-len in
+    let height : ℕ = start.args.height in
+    let done : pad_answer table len ≡ Done = sym at-pad.pad.ensures.0 ∙ told.enum_told.given.1 in
+    let main : List ℕ = law.main table len height start.pre.0 start.pre.1 done in
+    let main-is : c.raise_multiplicity.new.table ≡ main = let e : counted.rows-below.result ≡ height - rows table = omega (arith, counted.rows-below.ensures, at-pad.pad.kept.0) in
+    c.raise_multiplicity.ensures ∙ (λ i. raised (at-pad.pad.ensures.1 i) 1 (e i)) in
+    let grown-is : pad_table (longer height table) len ≡ grown height main = law.grown-is table len height start.pre.0 start.pre.1 done in
+    let pad-done : pad_answer (longer height table) len ≡ Done = law.same_answer table len height start.pre.0 start.pre.1 ∙ done in
+    let challenges = (start).args.challenges.now in
+    let whole = ap (grown (height)) (main-is) ∙ sym (grown-is) in record { answer = c.walked_cells.ensures.answer ∙ ap (λ t. extendedAnswer t challenges) whole ∙ sym (ap (λ a. after a (extendedAnswer (pad_table (longer (height) (table)) (len)) challenges)) (pad-done)); cells = c.walked_cells.ensures.cells ∙ ap (λ t. on_done c.walked_cells.result (extendedCells t challenges) (start).args.cells.now) whole }
