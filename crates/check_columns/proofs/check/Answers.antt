@@ -17,6 +17,7 @@ use Rattle.check_columns.specs.Check.{check_tests, check_answer}
 use Rattle.check_columns.specs.declared.CheckAnswer.{CheckAnswer}
 use Rattle.check_columns.specs.declared.CheckAnswer.TheVariants.{Checked, Refused}
 use Rattle.check_columns.proofs.check.Goals as goal
+use Rattle.check_columns.proofs.check.Goals.{else-rows-eq0, then-rows-eq0}
 
 pub returns-then-not-right_lengths : goal.returns-then-not-right_lengths
 unfolding check_answer
@@ -29,7 +30,7 @@ returns-then-rows-eq0 c =
     first_or Refused (drop n (check_tests args.main.now args.challenges.now args.offered.now)) (Checked (verdict args.challenges.now args.main.now args.offered.now)) in
     let to_rows : past 0 ≡ past 1 = rw (sym c.right_lengths.ensures ∙ c.if-not-right_lengths.false) in
     let n = rows c.args.main.now in
-    sym (to_rows ∙ ⊎_elim (λ x. rw (eq-eqb n 0 x.taken)) (λ x. rw (is_long_lem n ∙ x.1.taken, or-true)) c.then-rows-eq0.branch)
+    sym (to_rows ∙ (elim c.then-rows-eq0.branch [ then-rows-eq0 x ↦ rw (eq-eqb n 0 x.taken) | else-rows-eq0 x ↦ rw (is_long_lem n ∙ x.1.taken, or-true) ]))
 
 pub returns-then-not-all_below : goal.returns-then-not-all_below
 unfolding check_answer

@@ -7,4 +7,4 @@ pub returns-in-4 : goal.returns-in-4
 returns-in-4 c = λ e. absurd (true≢false e)
 
 pub returns-in_default : goal.returns-in_default
-returns-in_default c = λ e weights prev curr read. no-entries weights prev curr read c.in_default.rest.1
+returns-in_default c = λ e weights prev curr read. no-entries weights prev curr read c.in_default.in_default-own.rest.1

@@ -17,6 +17,7 @@ use Rattle.extend_answer.specs.Answer.{words_test}
 use Rattle.extend_answer.specs.Strict.{decoding_test, tests_in}
 use Rattle.extend_answer.proofs.Accepted.{Lengths, lengths}
 use Rattle.extend_answer.proofs.extend_answer.Goals as goal
+use Rattle.extend_answer.proofs.extend_answer.Goals.{else-rows-eq0, then-rows-eq0}
 
 pub returns-then-not-right_lengths : goal.returns-then-not-right_lengths
 returns-then-not-right_lengths c = rw (sym c.right_lengths.ensures ∙ c.if-not-right_lengths.true)
@@ -27,7 +28,7 @@ returns-then-rows-eq0 c =
     let past : ℕ → Answer = λ n. first (drop n (tests)) in
     let to_rows : past 0 ≡ past 1 = rw (sym c.right_lengths.ensures ∙ c.if-not-right_lengths.false) in
     let n = rows c.args.main.now in
-    sym (to_rows ∙ ⊎_elim (λ x. rw (eq-eqb n 0 x.taken)) (λ x. rw (is_long_lem n ∙ x.1.taken, or-true)) c.then-rows-eq0.branch)
+    sym (to_rows ∙ (elim c.then-rows-eq0.branch [ then-rows-eq0 x ↦ rw (eq-eqb n 0 x.taken) | else-rows-eq0 x ↦ rw (is_long_lem n ∙ x.1.taken, or-true) ]))
 
 pub returns-then-chunk-eq0 : goal.returns-then-chunk-eq0
 returns-then-chunk-eq0 c =

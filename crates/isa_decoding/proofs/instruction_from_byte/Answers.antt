@@ -33,4 +33,4 @@ pub returns-in_default : goal.returns-in_default
 returns-in_default c =
     let made : chosen c.is_stack_element.result c.is_number_of_words.result c.candidate_of-candidate.result ≡ decided_on (kind_at c.args.opcode) c.args.argument = let args = c.args in
     decides (kind_at args.opcode) args.argument c.candidate_of-candidate.ensures c.is_stack_element.ensures c.is_number_of_words.ensures in
-    rw (c.if-fits-test.false, ne_eqb _ 1 c.in_default.rest.0.1, ne_eqb _ 2 c.in_default.rest.1) at (made)
+    rw (c.if-fits-test.false, ne_eqb _ 1 c.in_default.in_default-own.rest.0.1, ne_eqb _ 2 c.in_default.in_default-own.rest.1) at (made)

@@ -4,6 +4,7 @@ use mathlib.Core.Logic.{⊎_elim}
 use Prim.Native.Nat.{◌-◌, ◌/◌, ◌≤◌}
 use lib.ListN.{length}
 use Rattle.list_values.proofs.differences.Goals as goal
+use Rattle.list_values.proofs.differences.Goals.{else-not-holds, then-not-holds}
 
 pub loop-i-preserved : goal.loop-i-preserved
-loop-i-preserved c = ⊎_elim (λ w. search rules) (λ w. search rules) c.if-not-holds.branch
+loop-i-preserved c = elim c.if-not-holds.branch [ then-not-holds w ↦ search rules | else-not-holds w ↦ search rules ]

@@ -12,6 +12,7 @@ use Rattle.refusal.specs.declared.Answer.{Answer}
 use Rattle.table_fill.specs.Fill.{fill_tests, fill_answer}
 use Rattle.refusal.proofs.Answers.{is_long_lem}
 use Rattle.table_fill.proofs.fill_answer.Goals as goal
+use Rattle.table_fill.proofs.fill_answer.Goals.{else-table_rows-gt-MAX_LEN, then-table_rows-gt-MAX_LEN}
 
 pub returns-then-trace-ne0 : goal.returns-then-trace-ne0
 unfolding fill_answer
@@ -43,10 +44,7 @@ returns-then-table_rows-gt-MAX_LEN c =
     let n = length c.args.table.now / 39 in
     sym
     (to_rows
-    ∙ ⊎_elim
-    (λ x. rw (is_long_lem n ∙ lt-ltb 4194304 n x.taken))
-    (λ x. rw (x.1.taken, or-true))
-    c.then-table_rows-gt-MAX_LEN.branch)
+    ∙ (elim c.then-table_rows-gt-MAX_LEN.branch [ then-table_rows-gt-MAX_LEN x ↦ rw (is_long_lem n ∙ lt-ltb 4194304 n x.taken) | else-table_rows-gt-MAX_LEN x ↦ rw (x.1.taken, or-true) ]))
 
 pub returns-then-not-all_below : goal.returns-then-not-all_below
 unfolding fill_answer

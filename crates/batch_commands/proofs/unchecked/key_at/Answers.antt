@@ -26,4 +26,4 @@ returns-in-5 c = rw c.in-5.is c.word_at-in-5.ensures
 
 pub returns-in_default : goal.returns-in_default
 unfolding key
-returns-in_default c = rw (keyless c.args.code c.requires.0 c.in_default.rest)
+returns-in_default c = rw (keyless c.args.code c.requires.0 c.in_default.in_default-own.rest)

@@ -10,4 +10,4 @@ pub returns-in-10 : goal.returns-in-10
 returns-in-10 c = rw c.in-10.is
 
 pub returns-in_default : goal.returns-in_default
-returns-in_default c = rw (ne_eqb _ 2 c.in_default.rest.0.1, ne_eqb _ 10 c.in_default.rest.1)
+returns-in_default c = rw (ne_eqb _ 2 c.in_default.in_default-own.rest.0.1, ne_eqb _ 10 c.in_default.in_default-own.rest.1)

@@ -7,13 +7,11 @@ use mathlib.Core.Logic.{⊎_elim}
 use lib.Dec.{eqb}
 use lib.ListN.{get_or}
 use Rattle.batch_commands.proofs.unchecked.out_of_place.Goals as goal
+use Rattle.batch_commands.proofs.unchecked.out_of_place.Goals.{else-came-eq0, then-came-eq0}
 
 in_first : (c : goal.Joined-came-eq0) → let args = c.args in (eqb (get_or args.t2 1 0) 0 && not (eqb args.code 1)) ≡ false
 in_first c =
-    ⊎_elim
-    (λ x. rw (eq-eqb _ 0 x.0.taken, eq-eqb _ 1 x.1.left))
-    (λ x. rw (ne_eqb _ 0 x.left))
-    c.if-came-eq0.branch
+    (elim c.if-came-eq0.branch [ then-came-eq0 x ↦ rw (eq-eqb _ 0 x.0.taken, eq-eqb _ 1 x.1.left) | else-came-eq0 x ↦ rw (ne_eqb _ 0 x.left) ])
 
 pub returns-then-code-ne-TRACE_ROWS : goal.returns-then-code-ne-TRACE_ROWS
 returns-then-code-ne-TRACE_ROWS c = rw (eq-eqb _ 0 c.if-came-eq0.true, ne_eqb _ 1 c.if-code-ne-TRACE_ROWS.true)

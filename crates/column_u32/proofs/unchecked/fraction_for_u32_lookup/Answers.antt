@@ -44,5 +44,5 @@ returns-in-36 c =
 
 pub returns-in_default : goal.returns-in_default
 returns-in_default c =
-    let rest = c.in_default.rest in
+    let rest = c.in_default.in_default-own.rest in
     none _ _ _ _ c.word_at-previous_ci.ensures (no-entries _ _ _ c.word_at-previous_ci.ensures (together rest.0.0.0.0.0.1 rest.0.0.0.0.1 rest.0.0.0.1 rest.0.0.1 rest.0.1 rest.1))
