@@ -117,28 +117,28 @@ returns-in-Refused c =
     let to_reading : open_answer c.args.batch.now (length c.args.trace.now) (length c.args.op_stack.now) (length c.args.ram.now) (length c.args.jump_stack.now) (length c.args.sampled.now) (length c.args.digest.now) (length c.args.input.now) (length c.args.output.now) ≡ answer_of (reading c.args.batch.now) = rw (le-ltb _ _ c.if-batch-gt-MAX_LEN.false, right) in record { answer = sym (to_reading ∙ sym c.read-answer.ensures ∙ c.in-Refused.is); trace = refl; op_stack = refl; ram = refl; jump_stack = refl; sampled = refl; digest = refl; input = refl; output = refl }
 
 pub shape_of-trace : goal.shape_of-trace
-shape_of-trace c = c.put_rows-at.auto.1.1.0
+shape_of-trace c = c.put_rows-at.auto.slice
 
 pub shape_of-op_stack : goal.shape_of-op_stack
-shape_of-op_stack c = c.put_section-at-in-Opened-4.auto.1.1.1.1.0
+shape_of-op_stack c = c.put_section-at-in-Opened-4.auto.slice
 
 pub shape_of-ram : goal.shape_of-ram
-shape_of-ram c = c.put_section-at-in-Opened-5.auto.1.1.1.1.0
+shape_of-ram c = c.put_section-at-in-Opened-5.auto.slice
 
 pub shape_of-jump_stack : goal.shape_of-jump_stack
-shape_of-jump_stack c = c.put_section-at.auto.1.1.1.1.0
+shape_of-jump_stack c = c.put_section-at.auto.slice
 
 pub shape_of-sampled : goal.shape_of-sampled
-shape_of-sampled c = c.put_section-at-in-Opened-3.auto.1.1.1.1.0
+shape_of-sampled c = c.put_section-at-in-Opened-3.auto.slice
 
 pub shape_of-digest : goal.shape_of-digest
-shape_of-digest c = c.put_section-at.auto.1.1.1.1.0
+shape_of-digest c = c.put_section-at.auto.slice
 
 pub shape_of-input : goal.shape_of-input
-shape_of-input c = c.put_section-at-in-Opened.auto.1.1.1.1.0
+shape_of-input c = c.put_section-at-in-Opened.auto.slice
 
 pub shape_of-output : goal.shape_of-output
-shape_of-output c = c.put_section-at-in-Opened-2.auto.1.1.1.1.0
+shape_of-output c = c.put_section-at-in-Opened-2.auto.slice
 
 pub returns-in-Opened : goal.returns-in-Opened
 unfolding open_slice brought

@@ -64,7 +64,7 @@ loop-place-smaller c =
 pub loop-place-preserved : goal.loop-place-preserved
 loop-place-preserved c =
     let wide : c.width-width.result ≡ width c.args.wanted = c.width-width.ensures in
-    rw (wide) (goes_on c.args.batch.now c.args.wanted c.requires.batch_value c.requires.wanted_nonzero.0 c.requires.wanted_nonzero.1 c.args.form c.args.slice.now c.loop-place.slice c.loop-place.to c.loop-place.place c.loop-place.inv c.if-batch-place.false _ c.put_words.auto.1.1.1.1.0 (rw (wide) at c.put_words.ensures))
+    rw (wide) (goes_on c.args.batch.now c.args.wanted c.requires.batch_value c.requires.wanted_nonzero.0 c.requires.wanted_nonzero.1 c.args.form c.args.slice.now c.loop-place.slice c.loop-place.to c.loop-place.place c.loop-place.inv c.if-batch-place.false _ c.put_words.auto.slice (rw (wide) at c.put_words.ensures))
 
 pub shape_of-slice : goal.shape_of-slice
 shape_of-slice c = c.loop-place.invariant.same_length

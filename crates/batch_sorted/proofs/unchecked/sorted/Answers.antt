@@ -22,7 +22,7 @@ loop-i-preserved c =
     let room = c.loop-i.room in
     let i = c.loop-i.i - 1 in (
       search rules,
-      same_len_mid i (length list - i) room c.insert.new.room c.insert.auto.0 ∙ c.loop-i.invariant.1,
+      same_len_mid i (length list - i) room c.insert.new.room c.insert.auto.room ∙ c.loop-i.invariant.1,
       one_more list room c.insert.new.room _ i (omega arith) (omega arith) c.loop-i.i (omega arith) c.loop-i.invariant.2 c.insert.ensures,
     )
 

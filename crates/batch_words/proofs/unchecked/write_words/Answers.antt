@@ -26,7 +26,7 @@ loop-i-preserved c =
     let word : c.word_in.result ≡ get_or ws i 0 = c.word_in.ensures ∙ sym (in_form_at args.form args.words.now i) in
     let wrote = c.write_word in (
       search rules,
-      wrote.auto.0 ∙ c.loop-i.invariant.1,
+      wrote.auto.batch ∙ c.loop-i.invariant.1,
       wrote.ensures ∙ ap₂ (λ l w. pasted l (args.at + 8 * i) (little_endian 8 w)) c.loop-i.invariant.2 word ∙ word_on args.batch.now args.at ws i (omega arith) (omega arith),
     )
 

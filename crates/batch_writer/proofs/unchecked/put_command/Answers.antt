@@ -11,7 +11,7 @@ use Rattle.batch_words.proofs.Pasting.{stored_on}
 use Rattle.batch_writer.proofs.unchecked.put_command.Goals as goal
 
 pub shape_of-batch : goal.shape_of-batch
-shape_of-batch c = let args = c.args in c.write_words.auto.1.1.0 ∙ length-set args.batch.now args.at args.code
+shape_of-batch c = let args = c.args in c.write_words.auto.batch ∙ length-set args.batch.now args.at args.code
 
 pub returns : goal.returns
 returns c =

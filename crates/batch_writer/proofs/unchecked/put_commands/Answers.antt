@@ -38,7 +38,7 @@ loop-left-preserved c =
     let put = c.put_command in
     let each = c.width-each.result / 8 in
     let from = c.loop-left.from in
-    (one-put args.batch.now args.at args.code (in_form args.form args.words.now) args.n (c.width-each.result / 8) c.loop-left.batch c.loop-left.to c.loop-left.from c.loop-left.left c.loop-left.invariant.0 (omega arith) put.new.batch put.auto.0 (rw (sym (in_form_part args.form (from + each - from) from args.words.now)) put.ensures), c.loop-left.invariant.1)
+    (one-put args.batch.now args.at args.code (in_form args.form args.words.now) args.n (c.width-each.result / 8) c.loop-left.batch c.loop-left.to c.loop-left.from c.loop-left.left c.loop-left.invariant.0 (omega arith) put.new.batch put.auto.batch (rw (sym (in_form_part args.form (from + each - from) from args.words.now)) put.ensures), c.loop-left.invariant.1)
 
 pub returns : goal.returns
 returns c =

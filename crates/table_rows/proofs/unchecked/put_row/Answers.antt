@@ -15,11 +15,11 @@ pub loop-i-preserved : goal.loop-i-preserved
 loop-i-preserved c =
     let args = c.args in
     let i = c.loop-i.i in
-    (search rules, search rules, rw (c.loop-i.invariant.2, add-one, paste-suc args.table.now (args.c * 39) args.t3 i 0 (search rules) (search rules)))
+    (search rules, search rules, rw (c.loop-i.invariant.2, add-one, paste-suc args.table.now (args.c * 39) args.row i 0 (search rules) (search rules)))
 
 pub returns : goal.returns
 returns c =
     let args = c.args in
     let e₁ : c.loop-i.i ≡ 39 = omega arith in
     let e₂ : suc args.c * 39 ≡ args.c * 39 + 39 = omega arith in
-    rw (c.loop-i.invariant.2, e₁, e₂, take_all 39 args.t3 (search rules))
+    rw (c.loop-i.invariant.2, e₁, e₂, take_all 39 args.row (search rules))

@@ -20,7 +20,7 @@ padded_cells-requires c =
     let trace : List ℕ = start.args.trace.now in
     let table : List ℕ = start.args.table.now in
     let height : ℕ = start.args.height in
-    let same : length (table) ≡ length c.fill-answer.new.table = omega (arith, c.fill-answer.auto.1.1.1.1.0) in record { table_value = subst (λ (n : ℕ). eqb (n % 39) 0 ≡ true) same c.requires.table_value; kept = subst (λ (n : ℕ). Kept (rows (trace)) (n / 39) (height)) same c.requires.kept }
+    let same : length (table) ≡ length c.fill-answer.new.table = omega (arith, c.fill-answer.auto.table) in record { table_value = subst (λ (n : ℕ). eqb (n % 39) 0 ≡ true) same c.requires.table_value; kept = subst (λ (n : ℕ). Kept (rows (trace)) (n / 39) (height)) same c.requires.kept }
 
 pub returns-in-Refused : goal.returns-in-Refused
 unfolding filledAnswer

@@ -17,11 +17,11 @@ use borrow.Author.Rules.{rules}
 use Rattle.terminals_cells.proofs.unchecked.padded_cells.Goals as goal
 
 pub rows_below-more-requires : goal.rows_below-more-requires
-rows_below-more-requires c = omega (arith, c.pad-answer.auto.0, c.requires.kept.within)
+rows_below-more-requires c = omega (arith, c.pad-answer.auto.table, c.requires.kept.within)
 
 pub raise_multiplicity-requires : goal.raise_multiplicity-requires
 raise_multiplicity-requires c =
-    (omega (arith, c.pad-answer.auto.0, c.requires.kept.two), omega (arith, c.rows_below-more.ensures, c.requires.kept.short))
+    (omega (arith, c.pad-answer.auto.table, c.requires.kept.two), omega (arith, c.rows_below-more.ensures, c.requires.kept.short))
 
 pub walked_cells-requires : goal.walked_cells-requires
 walked_cells-requires c =
