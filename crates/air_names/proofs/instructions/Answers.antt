@@ -7,8 +7,7 @@ use Rattle.air_names.proofs.instructions.Goals as goal
 
 pub returns : goal.returns
 unfolding name_of
-returns c =
-    (lit< tt, refl)
+returns c (Push n) = (lit< tt, refl)
 returns c (Pop n) = (lit< tt, refl)
 returns c (Divine n) = (lit< tt, refl)
 returns c (Pick n) = (lit< tt, refl)
