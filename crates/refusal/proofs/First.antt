@@ -8,7 +8,7 @@ use native.Mathlib.Omega.{arith}
 use lib.Dec.{T, T_not, eqb, eqb_refl}
 use borrow.Author.Tests.{eqb-true}
 use mir.Facts.{and_yes}
-use Rattle.refusal.specs.Number.{number_of, answer_number_of}
+use Rattle.refusal.specs.Number.{number_of}
 use Rattle.refusal.specs.Tests.{Test, Tests, ◌when◌, first_or, first, NoneHolds, HoldsFirst}
 use Rattle.refusal.specs.declared.Refusal.{Refusal}
 use Rattle.refusal.specs.declared.Answer.{Answer}

@@ -1,5 +1,4 @@
 -- The second operand is tested where the first one passes.
-use borrow.Author.Rules.{rules}
 use mathlib.Core.Path.{sym, ◌∙◌}
 use Rattle.field.proofs.both_canonical.Goals as goal
 

@@ -1,6 +1,4 @@
 -- Both operands are tested, then the operation's answer.
-use borrow.Author.Rules.{rules}
-use borrow.Author.Tests.{not-true, not-false}
 use mathlib.Core.Path.{sym, ◌∙◌}
 use Rattle.field_base.proofs.Below.{and-true}
 use Rattle.field.proofs.Below.{canonical_true}

@@ -1,6 +1,4 @@
 -- The two tests in order.
-use borrow.Author.Rules.{rules}
-use borrow.Author.Tests.{not-true, not-false}
 use mathlib.Core.Path.{sym, ◌∙◌}
 use Rattle.field.proofs.Below.{canonical_true}
 use Rattle.field.proofs.element_inverse.Goals as goal

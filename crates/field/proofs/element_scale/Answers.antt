@@ -1,6 +1,5 @@
 -- The two tests in order.
-use borrow.Author.Rules.{rules}
-use borrow.Author.Tests.{le-ltb, lt-ltb, not-true, not-false}
+use borrow.Author.Tests.{le-ltb, lt-ltb}
 use mathlib.Core.Path.{sym, ◌∙◌}
 use Rattle.field.proofs.element_scale.Goals as goal
 

@@ -1,8 +1,7 @@
 -- The top bit of what is gathered, and the words from i on, decide.
-use Rattle.std.proofs.Common.{◌≡◌, ◌-◌, ◌≤◌, ◌&&◌, length, drop, sym, refl, ◌∙◌, arith, rules}
+use Rattle.std.proofs.Common.{sym, refl, ◌∙◌, arith, rules}
 use mathlib.Core.Bool.{and-true}
-use Rattle.field_base.specs.Words.{all_below}
-use Rattle.field_base.proofs.Below.{clear, gathered_at, holds_past}
+use Rattle.field_base.proofs.Below.{gathered_at, holds_past}
 use Rattle.field_base.proofs.all_below.Goals as goal
 
 pub loop-i-init : goal.loop-i-init

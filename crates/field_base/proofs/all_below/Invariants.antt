@@ -1,8 +1,7 @@
 -- The top bit of what is gathered, and the words from i on, decide.
-use Rattle.std.proofs.Common.{◌≡◌, ◌-◌, ◌≤◌, ◌&&◌, length, drop, sym, refl, ◌∙◌, arith, rules}
-use mathlib.Core.Bool.{and-true}
+use Rattle.std.proofs.Common.{◌≡◌, ◌-◌, ◌≤◌, ◌&&◌, length, drop}
 use Rattle.field_base.specs.Words.{all_below}
-use Rattle.field_base.proofs.Below.{clear, gathered_at, holds_past}
+use Rattle.field_base.proofs.Below.{clear}
 use Rattle.field_base.proofs.all_below.Given as goal
 
 abbrev pub invariant-loop-i : goal.invariant-loop-i

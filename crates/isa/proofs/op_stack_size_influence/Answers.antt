@@ -1,5 +1,4 @@
 -- `op_stack_size_influence` gives what the table gives: each arm knows its instruction.
-use borrow.Author.Rules.{rules}
 use mathlib.Core.Path.{◌≡◌, sym, ap}
 use Rattle.isa.specs.Instruction.{influence_of}
 use Rattle.isa.specs.declared.Instruction.{Instruction}

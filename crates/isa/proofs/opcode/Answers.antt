@@ -1,5 +1,4 @@
 -- `opcode` gives what the table gives: each arm knows its instruction.
-use borrow.Author.Rules.{rules}
 use mathlib.Core.Path.{◌≡◌, sym, ap}
 use Rattle.isa.specs.Instruction.{opcode_of}
 use Rattle.isa.specs.declared.Instruction.{Instruction}

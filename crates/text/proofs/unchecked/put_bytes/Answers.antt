@@ -1,11 +1,11 @@
 -- The first i bytes of the text are stored.
 use borrow.Author.Rules.{rules}
-use mathlib.Core.Path.{◌≡◌, refl, sym, ap, ◌∙◌}
+use mathlib.Core.Path.{refl, sym, ap, ◌∙◌}
 use mathlib.Core.List.{[], ◌∷◌}
-use Prim.Native.Nat.{◌+◌, ◌-◌, ◌≤◌}
+use Prim.Native.Nat.{◌+◌}
 use native.Mathlib.Numerals.{add-one}
 use native.Mathlib.Omega.{arith}
-use lib.ListN.{length, take, get_or, set}
+use lib.ListN.{take, get_or, set}
 use lib.Seq.{sets, take-suc, take_all, length-take-le}
 use Rattle.text.proofs.Stores.{sets_append}
 use Rattle.text.proofs.unchecked.put_bytes.Goals as goal

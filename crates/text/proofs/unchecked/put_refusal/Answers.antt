@@ -5,7 +5,6 @@ use native.Mathlib.Omega.{arith}
 use Rattle.text.specs.Ascii.{ascii}
 use Rattle.text.specs.Text.{word}
 use Rattle.text.proofs.Stores.{put, then, put_as}
-use borrow.Author.Rules.{rules}
 use Rattle.text.proofs.unchecked.put_refusal.Goals as goal
 
 pub returns : goal.returns

@@ -4,7 +4,6 @@ use native.Mathlib.Omega.{arith}
 use Rattle.text.specs.Text.{decimal}
 use Rattle.text.proofs.Digits.{at_most_twenty}
 use Rattle.text.proofs.Stores.{Put, with_byte}
-use borrow.Author.Rules.{rules}
 use Rattle.text.proofs.unchecked.put_word.Goals as goal
 
 pub put_decimal-end-requires : goal.put_decimal-end-requires
