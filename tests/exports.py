@@ -1,5 +1,5 @@
-"""Holds what `tealbobbin_c` exports to the public functions of `tealbobbin`: the same names, parameters, answers and clauses, each
-in one module over the same imports, and the body calls the function of that name with the parameters as they stand.
+"""Holds what `tealbobbin_c` exports to the public functions of `tealbobbin`: the same names, parameters, answers and clauses, over
+the same imports for clauses; and each body is the call of the function of that name with the parameters as they stand.
 
 So what is proved of the contracts of `tealbobbin` (`terms_calls`) holds of the functions that C calls.
 """
@@ -9,7 +9,7 @@ import sys
 
 
 def functions(crate, begins):
-    """By name, a function's parameters, its clauses and its body, without layout; and what the file brings in for clauses."""
+    """By name, a function's parameters, its answer with its clauses, and its body, without layout; and the imports for clauses."""
     found, uses = {}, set()
     for path in pathlib.Path(f"crates/{crate}/src").rglob("*.rt"):
         text = path.read_text()
