@@ -7,9 +7,9 @@ import pathlib
 import re
 import sys
 
-EXPORTS = "tealbobbin"
+EXPORTS = "tealbobbin_c"
 ROW = re.compile(r"^\| \d+ \| (`[^|]*) \| ([\d,]+) \| [^|]* \|$", re.M)
-IMPORT = re.compile(r"^ *(?:pub |ghost )?use Rattle·(\w+)(?:·\w+)?\.(specs|proofs)\.(\w+)", re.M)
+IMPORT = re.compile(r"^ *(?:pub |ghost )?use Rattle\.(\w+)\.(specs|proofs)(?:\.(\w+))?", re.M)
 
 CRATES = {path.name: path for path in pathlib.Path("crates").iterdir()}
 FILES = {(name, path.stem): path for name, crate in CRATES.items() for path in crate.glob("specs/*.antt") if path.stem != "Lib"}
@@ -37,8 +37,9 @@ def rests_on(crate, file):
     paths = [FILES[crate, file]] if file else CRATES[crate].glob("src/*.rt")
     for path in paths:
         for other, kind, name in IMPORT.findall(path.read_text()):
-            if name != "declared":
-                yield other, name if kind == "specs" else None
+            # the kit's std is trusted, and a declared type stands in src/
+            if other in CRATES and name != "declared":
+                yield other, name if kind == "specs" and name != "contracts" else None
 
 
 seen, left = set(), [(EXPORTS, None), *(file for file in FILES if file in listed or file[0].startswith("terms"))]

@@ -1,4 +1,4 @@
-//! Links the static library: that of the folder that `TEALBOBBIN_LIB` names, or the one that `rt staticlib tealbobbin` writes.
+//! Links the static library: that of the folder that `TEALBOBBIN_LIB` names, or the one that `scripts/library` writes.
 
 use std::env;
 use std::path::PathBuf;
@@ -13,7 +13,7 @@ fn main() {
     // a warning, since cargo check and cargo doc do without it; rustc fails where it is to be linked
     if !library.is_file() {
         println!(
-            "cargo::warning=there is no {}: run `rt staticlib tealbobbin` in {}, or let TEALBOBBIN_LIB name the library's folder",
+            "cargo::warning=there is no {}: run `scripts/library` in {}, or let TEALBOBBIN_LIB name the library's folder",
             library.display(),
             top.display()
         );

@@ -43,7 +43,7 @@
 //! they lie, without a copy. A function that turns its input away answers with a [`Refusal`] and has written nothing; none panics.
 //!
 //! The crate needs neither the standard library nor an allocator. It links `libtealbobbin.a` from the repository's
-//! `target/staticlib`, where `rt staticlib tealbobbin` writes it, or from the folder that the environment variable `TEALBOBBIN_LIB`
+//! `target/staticlib`, where `scripts/library` writes it, or from the folder that the environment variable `TEALBOBBIN_LIB`
 //! names, a relative path being seen from the repository's top. `cargo check` and `cargo doc` do without it.
 
 #![no_std]

@@ -1,4 +1,4 @@
-// The C ABI. A slice is a pointer and a count. Every function answers 0 or the number of the refusal,
+// The functions of the C ABI: `tealbobbin_c` exports each under its name here. Every function answers 0 or the number of the refusal,
 // and writes nothing on a refusal.
 #![tactic(auto)]
 
@@ -31,80 +31,70 @@ use challenges::Challenges;
 use tealbobbin_answers::unchecked::{put_counts, put_place, put_verdict};
 use tealbobbin_answers::{put_base, put_decoded, put_element, told_form};
 
-#[unsafe(no_mangle)]
-pub extern "C" fn tealbobbin_base_add(a: u64, b: u64, out: &mut [u64]) -> u32
+pub fn tealbobbin_base_add(a: u64, b: u64, out: &mut [u64]) -> u32
     ensures number { result ≡ base_number_into out.old (base_add a b) }
     ensures written { out.new ≡ base_into out.old (base_add a b) }
 {
     put_base(field_base::add(a, b), out)
 }
 
-#[unsafe(no_mangle)]
-pub extern "C" fn tealbobbin_base_sub(a: u64, b: u64, out: &mut [u64]) -> u32
+pub fn tealbobbin_base_sub(a: u64, b: u64, out: &mut [u64]) -> u32
     ensures number { result ≡ base_number_into out.old (base_sub a b) }
     ensures written { out.new ≡ base_into out.old (base_sub a b) }
 {
     put_base(field_base::sub(a, b), out)
 }
 
-#[unsafe(no_mangle)]
-pub extern "C" fn tealbobbin_base_mul(a: u64, b: u64, out: &mut [u64]) -> u32
+pub fn tealbobbin_base_mul(a: u64, b: u64, out: &mut [u64]) -> u32
     ensures number { result ≡ base_number_into out.old (base_mul a b) }
     ensures written { out.new ≡ base_into out.old (base_mul a b) }
 {
     put_base(field_base::mul(a, b), out)
 }
 
-#[unsafe(no_mangle)]
-pub extern "C" fn tealbobbin_base_inverse(a: u64, out: &mut [u64]) -> u32
+pub fn tealbobbin_base_inverse(a: u64, out: &mut [u64]) -> u32
     ensures number { result ≡ base_number_into out.old (base_inverse a) }
     ensures written { out.new ≡ base_into out.old (base_inverse a) }
 {
     put_base(field_base::inverse(a), out)
 }
 
-#[unsafe(no_mangle)]
-pub extern "C" fn tealbobbin_to_montgomery(a: u64, out: &mut [u64]) -> u32
+pub fn tealbobbin_to_montgomery(a: u64, out: &mut [u64]) -> u32
     ensures number { result ≡ base_number_into out.old (to_answer a) }
     ensures written { out.new ≡ base_into out.old (to_answer a) }
 {
     put_base(field_montgomery::to_montgomery(a), out)
 }
 
-#[unsafe(no_mangle)]
-pub extern "C" fn tealbobbin_from_montgomery(a: u64, out: &mut [u64]) -> u32
+pub fn tealbobbin_from_montgomery(a: u64, out: &mut [u64]) -> u32
     ensures number { result ≡ base_number_into out.old (from_answer a) }
     ensures written { out.new ≡ base_into out.old (from_answer a) }
 {
     put_base(field_montgomery::from_montgomery(a), out)
 }
 
-#[unsafe(no_mangle)]
-pub extern "C" fn tealbobbin_montgomery_add(a: u64, b: u64, out: &mut [u64]) -> u32
+pub fn tealbobbin_montgomery_add(a: u64, b: u64, out: &mut [u64]) -> u32
     ensures number { result ≡ base_number_into out.old (montgomery_add a b) }
     ensures written { out.new ≡ base_into out.old (montgomery_add a b) }
 {
     put_base(field_montgomery::add(a, b), out)
 }
 
-#[unsafe(no_mangle)]
-pub extern "C" fn tealbobbin_montgomery_mul(a: u64, b: u64, out: &mut [u64]) -> u32
+pub fn tealbobbin_montgomery_mul(a: u64, b: u64, out: &mut [u64]) -> u32
     ensures number { result ≡ base_number_into out.old (montgomery_mul a b) }
     ensures written { out.new ≡ base_into out.old (montgomery_mul a b) }
 {
     put_base(field_montgomery::mul(a, b), out)
 }
 
-#[unsafe(no_mangle)]
-pub extern "C" fn tealbobbin_montgomery_inverse(a: u64, out: &mut [u64]) -> u32
+pub fn tealbobbin_montgomery_inverse(a: u64, out: &mut [u64]) -> u32
     ensures number { result ≡ base_number_into out.old (montgomery_inverted a) }
     ensures written { out.new ≡ base_into out.old (montgomery_inverted a) }
 {
     put_base(field_montgomery::inverse(a), out)
 }
 
-#[unsafe(no_mangle)]
-pub extern "C" fn tealbobbin_element_add(a: &[u64], b: &[u64], out: &mut [u64]) -> u32
+pub fn tealbobbin_element_add(a: &[u64], b: &[u64], out: &mut [u64]) -> u32
     ensures number { result ≡ binary_number element_add a.now b.now out.old }
     ensures written { out.new ≡ binary_out element_add a.now b.now out.old }
 {
@@ -119,8 +109,7 @@ pub extern "C" fn tealbobbin_element_add(a: &[u64], b: &[u64], out: &mut [u64]) 
     put_element(field::element_add(x, y), out)
 }
 
-#[unsafe(no_mangle)]
-pub extern "C" fn tealbobbin_element_sub(a: &[u64], b: &[u64], out: &mut [u64]) -> u32
+pub fn tealbobbin_element_sub(a: &[u64], b: &[u64], out: &mut [u64]) -> u32
     ensures number { result ≡ binary_number element_sub a.now b.now out.old }
     ensures written { out.new ≡ binary_out element_sub a.now b.now out.old }
 {
@@ -135,8 +124,7 @@ pub extern "C" fn tealbobbin_element_sub(a: &[u64], b: &[u64], out: &mut [u64]) 
     put_element(field::element_sub(x, y), out)
 }
 
-#[unsafe(no_mangle)]
-pub extern "C" fn tealbobbin_element_mul(a: &[u64], b: &[u64], out: &mut [u64]) -> u32
+pub fn tealbobbin_element_mul(a: &[u64], b: &[u64], out: &mut [u64]) -> u32
     ensures number { result ≡ binary_number element_mul a.now b.now out.old }
     ensures written { out.new ≡ binary_out element_mul a.now b.now out.old }
 {
@@ -151,8 +139,7 @@ pub extern "C" fn tealbobbin_element_mul(a: &[u64], b: &[u64], out: &mut [u64]) 
     put_element(field::element_mul(x, y), out)
 }
 
-#[unsafe(no_mangle)]
-pub extern "C" fn tealbobbin_element_scale(k: u64, a: &[u64], out: &mut [u64]) -> u32
+pub fn tealbobbin_element_scale(k: u64, a: &[u64], out: &mut [u64]) -> u32
     ensures number { result ≡ unary_number (element_scale k) a.now out.old }
     ensures written { out.new ≡ unary_out (element_scale k) a.now out.old }
 {
@@ -163,8 +150,7 @@ pub extern "C" fn tealbobbin_element_scale(k: u64, a: &[u64], out: &mut [u64]) -
     put_element(field::element_scale(k, x), out)
 }
 
-#[unsafe(no_mangle)]
-pub extern "C" fn tealbobbin_element_inverse(a: &[u64], out: &mut [u64]) -> u32
+pub fn tealbobbin_element_inverse(a: &[u64], out: &mut [u64]) -> u32
     ensures number { result ≡ unary_number element_inverse a.now out.old }
     ensures written { out.new ≡ unary_out element_inverse a.now out.old }
 {
@@ -177,8 +163,7 @@ pub extern "C" fn tealbobbin_element_inverse(a: &[u64], out: &mut [u64]) -> u32
 
 // Into `out` go two words: 1 and the opcode; 0 and 0 where no instruction has the opcode; 2 or 3 and the opcode where the argument is
 // not in 0 to 15 or not in 1 to 5.
-#[unsafe(no_mangle)]
-pub extern "C" fn tealbobbin_decode(row: &[u64], out: &mut [u64]) -> u32
+pub fn tealbobbin_decode(row: &[u64], out: &mut [u64]) -> u32
     ensures number { result ≡ decode_number_into out.old (decode_answer row.now) }
     ensures written { out.new ≡ decode_into out.old (decode_answer row.now) }
 {
@@ -186,8 +171,7 @@ pub extern "C" fn tealbobbin_decode(row: &[u64], out: &mut [u64]) -> u32
 }
 
 // Writes the record, `air::RECORD_WORDS` words: the sampled challenges and the four that are derived from them.
-#[unsafe(no_mangle)]
-pub extern "C" fn tealbobbin_challenges(
+pub fn tealbobbin_challenges(
     sampled: &[u64],
     digest: &[u64],
     input: &[u64],
@@ -203,24 +187,21 @@ pub extern "C" fn tealbobbin_challenges(
 }
 
 // Scans in place: each item becomes what the items up to it come to. A map is six words, an element three.
-#[unsafe(no_mangle)]
-pub extern "C" fn tealbobbin_scan_maps(items: &mut [u64], chunk: usize) -> u32
+pub fn tealbobbin_scan_maps(items: &mut [u64], chunk: usize) -> u32
     ensures number { result ≡ answer_number_of (scan_answer 6 items.old chunk) }
     ensures scanned { items.new ≡ scan_words 6 items.old chunk (scanned_maps items.old) }
 {
     refusal::answer_number(running_arguments::scan_maps(items, chunk))
 }
 
-#[unsafe(no_mangle)]
-pub extern "C" fn tealbobbin_scan_products(items: &mut [u64], chunk: usize) -> u32
+pub fn tealbobbin_scan_products(items: &mut [u64], chunk: usize) -> u32
     ensures number { result ≡ answer_number_of (scan_answer 3 items.old chunk) }
     ensures scanned { items.new ≡ scan_words 3 items.old chunk (scanned_products items.old) }
 {
     refusal::answer_number(running_arguments::scan_products(items, chunk))
 }
 
-#[unsafe(no_mangle)]
-pub extern "C" fn tealbobbin_scan_sums(items: &mut [u64], chunk: usize) -> u32
+pub fn tealbobbin_scan_sums(items: &mut [u64], chunk: usize) -> u32
     ensures number { result ≡ answer_number_of (scan_answer 3 items.old chunk) }
     ensures scanned { items.new ≡ scan_words 3 items.old chunk (scanned_sums items.old) }
 {
@@ -228,8 +209,7 @@ pub extern "C" fn tealbobbin_scan_sums(items: &mut [u64], chunk: usize) -> u32
 }
 
 // Copies the trace and counts each row's multiplicity from the three lists of differences.
-#[unsafe(no_mangle)]
-pub extern "C" fn tealbobbin_fill(
+pub fn tealbobbin_fill(
     trace: &[u64],
     op_stack: &[u64],
     ram: &[u64],
@@ -245,8 +225,7 @@ pub extern "C" fn tealbobbin_fill(
 }
 
 // Pads the rows from `table_len` on.
-#[unsafe(no_mangle)]
-pub extern "C" fn tealbobbin_pad(table: &mut [u64], table_len: usize) -> u32
+pub fn tealbobbin_pad(table: &mut [u64], table_len: usize) -> u32
     ensures number { result ≡ answer_number_of (pad_answer table.old table_len) }
     ensures padded { table.new ≡ pad_table table.old table_len }
 {
@@ -254,8 +233,7 @@ pub extern "C" fn tealbobbin_pad(table: &mut [u64], table_len: usize) -> u32
 }
 
 // Writes the eleven columns of the auxiliary table, and zeros in `work`.
-#[unsafe(no_mangle)]
-pub extern "C" fn tealbobbin_extend(
+pub fn tealbobbin_extend(
     main: &[u64],
     challenges: &[u64],
     chunk: usize,
@@ -273,8 +251,7 @@ pub extern "C" fn tealbobbin_extend(
 }
 
 // The same, where every row decodes.
-#[unsafe(no_mangle)]
-pub extern "C" fn tealbobbin_extend_strict(
+pub fn tealbobbin_extend_strict(
     main: &[u64],
     challenges: &[u64],
     chunk: usize,
@@ -292,8 +269,7 @@ pub extern "C" fn tealbobbin_extend_strict(
 }
 
 // Whether offered columns are just those that extension would write: 1 into `verdict` if they are, 0 if not.
-#[unsafe(no_mangle)]
-pub extern "C" fn tealbobbin_check(
+pub fn tealbobbin_check(
     main: &[u64],
     challenges: &[u64],
     offered: &[u64],
@@ -311,8 +287,7 @@ pub extern "C" fn tealbobbin_check(
 }
 
 // The same, and behind a 0 the first row, and in it the first column, whose relation fails; behind a 1 zeros.
-#[unsafe(no_mangle)]
-pub extern "C" fn tealbobbin_check_at(
+pub fn tealbobbin_check_at(
     main: &[u64],
     challenges: &[u64],
     offered: &[u64],
@@ -330,8 +305,7 @@ pub extern "C" fn tealbobbin_check_at(
 }
 
 // Opens a batch: rows and words into the slices, how many into `counts`.
-#[unsafe(no_mangle)]
-pub extern "C" fn tealbobbin_open(
+pub fn tealbobbin_open(
     batch: &[u8],
     trace: &mut [u64],
     op_stack: &mut [u64],
@@ -362,8 +336,7 @@ pub extern "C" fn tealbobbin_open(
 }
 
 // Writes the batch of the given contents, its rows as 02 if `form` is 0, else as 0A, and without 0B if k is 0. The lists of differences come in any order.
-#[unsafe(no_mangle)]
-pub extern "C" fn tealbobbin_write(
+pub fn tealbobbin_write(
     trace: &[u64],
     op_stack: &[u64],
     ram: &[u64],
@@ -401,8 +374,7 @@ pub extern "C" fn tealbobbin_write(
 }
 
 // The cells of the last row of the table that the batch leads to, `air::AUX_WORDS` words: what the program `terminals` prints.
-#[unsafe(no_mangle)]
-pub extern "C" fn tealbobbin_terminals(batch: &[u8], cells: &mut [u64]) -> u32
+pub fn tealbobbin_terminals(batch: &[u8], cells: &mut [u64]) -> u32
     ensures number { result ≡ answer_number_of (terminals_into batch.now cells.old) }
     ensures written { cells.new ≡ cells_into batch.now cells.old }
 {
