@@ -6,7 +6,6 @@ use Rattle.column_compression.proofs.compress3_c0.Goals as goal
 
 pub returns : goal.returns
 returns c =
-    let good = c.well_formed in
     c.settle.ensures
     ∙ ap (λ e. e.c0)
     (three c.args.weights c.args.words 0 (search rules) (search rules) c.weigh_last-last.ensures.0 c.weigh_more-last_two.ensures.0 c.weigh_more-sums.ensures.0)

@@ -8,7 +8,6 @@ use Rattle.column_compression.proofs.compress4.Goals as goal
 
 pub returns : goal.returns
 returns c =
-    let good = c.well_formed in
     let w = c.args.weights in
     let v = c.args.words in
     let h : length w ≡ 4 = search rules in

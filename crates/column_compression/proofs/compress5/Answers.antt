@@ -16,7 +16,6 @@ settle_weighed-requires c =
 
 pub returns : goal.returns
 returns c =
-    let good = c.well_formed in
     let w = c.args.weights in
     let v = c.args.words in
     let h : length w ≡ 5 = search rules in
