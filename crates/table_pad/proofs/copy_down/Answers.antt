@@ -43,4 +43,4 @@ returns-after-loop-c c =
 pub returns-else-table_len-rows : goal.returns-else-table_len-rows
 returns-else-table_len-rows c =
     let args = c.args in
-    sym (replace-past 39 args.table.now (padding_row (row_at args.table.now (args.table-len - 1))) args.table-len (length args.table.now / 39) c.if-table_len-rows.false)
+    sym (replace-past 39 args.table.now (padding_row (row_at args.table.now (args.table_len - 1))) args.table_len (length args.table.now / 39) c.if-table_len-rows.false)

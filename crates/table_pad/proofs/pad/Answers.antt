@@ -34,4 +34,4 @@ unfolding pad_table padded
 returns-in-Done c =
     let done : pad_answer c.args.table.now c.args.table_len ≡ Done = sym c.pad_answer-answer.ensures ∙ c.in-Done.is in
     let shape : Shaped c.args.table.now c.args.table_len = shaped c.args.table.now c.args.table_len (done) in
-    let args = c.args in record { answer = sym (done); padded = c.raise_multiplicity.ensures ∙ rw (done, copied-down args.table.now args.table-len (shape), c.copy_down.ensures) }
+    let args = c.args in record { answer = sym (done); padded = c.raise_multiplicity.ensures ∙ rw (done, copied-down args.table.now args.table_len (shape), c.copy_down.ensures) }

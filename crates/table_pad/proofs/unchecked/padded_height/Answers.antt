@@ -23,12 +23,12 @@ at_least k h = pow-le-pow_right {n = 2} (lit< tt) {i = 1} {j = k} h
 pub returns-then-log2_height-eq0 : goal.returns-then-log2_height-eq0
 returns-then-log2_height-eq0 c =
     let at = c.args in
-    (c.table_height.ensures.0 ∙ sym (ap (λ (b : Bool). cond b (height at.rows) (2 ^ at.«log2-height»)) (eq-eqb _ 0 c.if-log2_height-eq0.true)), c.table_height.ensures.1, omega (arith, c.table_height.ensures.2))
+    (c.table_height.ensures.0 ∙ sym (ap (λ (b : Bool). cond b (height at.rows) (2 ^ at.log2_height)) (eq-eqb _ 0 c.if-log2_height-eq0.true)), c.table_height.ensures.1, omega (arith, c.table_height.ensures.2))
 
 pub returns : goal.returns
 returns c =
     let at = c.args in
-    let k = at.«log2-height» in
+    let k = at.log2_height in
     let e = shifted k c.requires in
     let some = c.if-log2_height-eq0.false in
     (e ∙ sym (ap (λ (b : Bool). cond b (height at.rows) (2 ^ k)) (ne_eqb k 0 some)), rw e (at_least k (omega (arith, some))), rw e (at_most k c.requires))
