@@ -5,3 +5,4 @@ pub mod Products
 pub mod Fractions
 pub mod AuxRow
 pub mod Unread
+pub mod Others
