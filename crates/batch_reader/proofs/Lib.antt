@@ -7,7 +7,6 @@ pub mod Ordered
 pub mod Forms
 pub mod Bounds
 pub mod Reached
-pub mod Calling
 pub mod LaidOut
 pub mod Sections
 pub mod Rows

@@ -6,7 +6,7 @@ use mathlib.Core.List.{List}
 use Prim.Native.Nat.{ℕ}
 use lib.Dec.{eqb, lit<}
 use lib.ListN.{length}
-use borrow.Author.Tests.{lt-ltb, le-ltb, not-true, not-false}
+use borrow.Author.Tests.{lt-ltb, le-ltb}
 use Rattle.field_montgomery.specs.declared.Form.{Form}
 use Rattle.batch_commands.specs.Format.{OP-STACK, RAM, JUMP-STACK, SAMPLED, DIGEST, INPUT, OUTPUT, rank}
 use Rattle.batch_reader.specs.declared.OpenAnswer.TheVariants.{Opened}
@@ -109,9 +109,7 @@ put_section-requires c =
     let has_room : Room c.args.batch.now (length c.args.trace.now) (length c.args.op_stack.now) (length c.args.ram.now) (length c.args.jump_stack.now) (length c.args.sampled.now) (length c.args.digest.now) (length c.args.input.now) (length c.args.output.now) = room c.args.batch.now (length c.args.trace.now) (length c.args.op_stack.now) (length c.args.ram.now) (length c.args.jump_stack.now) (length c.args.sampled.now) (length c.args.digest.now) (length c.args.input.now) (length c.args.output.now) (read_through) (right) in record { batch_value = read_through; wanted_nonzero = (lit< tt, lit< tt, of_any (form) JUMP-STACK refl); at_value = c.put_section-at-in-Opened-5.ensures.value; batch_in_bounds = (has_room).for_jump_stack }
 
 pub returns-in-Refused : goal.returns-in-Refused
-unfolding open_slice
-
-unfolding open_answer
+unfolding open_slice open_answer
 returns-in-Refused c =
     let right : right_lengths (length c.args.trace.now) (length c.args.op_stack.now) (length c.args.ram.now) (length c.args.jump_stack.now) (length c.args.sampled.now) (length c.args.digest.now) (length c.args.input.now) (length c.args.output.now) ≡ true = sym c.right_lengths.ensures ∙ c.if-not-right_lengths.false in
     let to_reading : open_answer c.args.batch.now (length c.args.trace.now) (length c.args.op_stack.now) (length c.args.ram.now) (length c.args.jump_stack.now) (length c.args.sampled.now) (length c.args.digest.now) (length c.args.input.now) (length c.args.output.now) ≡ answer_of (reading c.args.batch.now) = rw (le-ltb _ _ c.if-batch-gt-MAX_LEN.false, right) in record { answer = sym (to_reading ∙ sym c.read-answer.ensures ∙ c.in-Refused.is); trace = refl; op_stack = refl; ram = refl; jump_stack = refl; sampled = refl; digest = refl; input = refl; output = refl }
@@ -126,7 +124,7 @@ pub shape_of-ram : goal.shape_of-ram
 shape_of-ram c = c.put_section-at-in-Opened-5.auto.slice
 
 pub shape_of-jump_stack : goal.shape_of-jump_stack
-shape_of-jump_stack c = c.put_section-at.auto.slice
+shape_of-jump_stack c = c.put_section.auto.slice
 
 pub shape_of-sampled : goal.shape_of-sampled
 shape_of-sampled c = c.put_section-at-in-Opened-3.auto.slice
@@ -141,11 +139,9 @@ pub shape_of-output : goal.shape_of-output
 shape_of-output c = c.put_section-at-in-Opened-2.auto.slice
 
 pub returns-in-Opened : goal.returns-in-Opened
-unfolding open_slice brought
-
-unfolding open_answer
+unfolding open_slice brought open_answer
 returns-in-Opened c =
     let right : right_lengths (length c.args.trace.now) (length c.args.op_stack.now) (length c.args.ram.now) (length c.args.jump_stack.now) (length c.args.sampled.now) (length c.args.digest.now) (length c.args.input.now) (length c.args.output.now) ≡ true = sym c.right_lengths.ensures ∙ c.if-not-right_lengths.false in
     let to_reading : open_answer c.args.batch.now (length c.args.trace.now) (length c.args.op_stack.now) (length c.args.ram.now) (length c.args.jump_stack.now) (length c.args.sampled.now) (length c.args.digest.now) (length c.args.input.now) (length c.args.output.now) ≡ answer_of (reading c.args.batch.now) = rw (le-ltb _ _ c.if-batch-gt-MAX_LEN.false, right) in
     let batch : List ℕ = c.args.batch.now in
-    let opened : answer_of (reading (batch)) ≡ Opened c.in-Opened.counts = sym c.read-answer.ensures ∙ c.in-Opened.is in record { answer = sym (to_reading ∙ opened); trace = c.put_rows-at.ensures.slice_after; op_stack = c.put_section-at-in-Opened-4.ensures.slice_after; ram = c.put_section-at-in-Opened-5.ensures.slice_after; jump_stack = c.put_section-at.ensures.slice_after; sampled = c.put_section-at-in-Opened-3.ensures.slice_after; digest = c.put_section-at.ensures.slice_after; input = c.put_section-at-in-Opened.ensures.slice_after; output = c.put_section-at-in-Opened-2.ensures.slice_after }
+    let opened : answer_of (reading (batch)) ≡ Opened c.in-Opened.counts = sym c.read-answer.ensures ∙ c.in-Opened.is in record { answer = sym (to_reading ∙ opened); trace = c.put_rows-at.ensures.slice_after; op_stack = c.put_section-at-in-Opened-4.ensures.slice_after; ram = c.put_section-at-in-Opened-5.ensures.slice_after; jump_stack = c.put_section.ensures.slice_after; sampled = c.put_section-at-in-Opened-3.ensures.slice_after; digest = c.put_section-at.ensures.slice_after; input = c.put_section-at-in-Opened.ensures.slice_after; output = c.put_section-at-in-Opened-2.ensures.slice_after }

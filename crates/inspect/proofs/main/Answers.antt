@@ -1,6 +1,8 @@
 -- What was read lies within its buffer, and the text within its own.
 use mathlib.Core.Path.{sym}
+use Prim.Native.Nat.{◌≤◌}
 use native.Mathlib.Omega.{arith}
+use lib.ListN.{length}
 use lib.Seq.{length-sets, length-take-le}
 use borrow.Author.Rules.{rules}
 use Rattle.inspect.proofs.main.Goals as goal
@@ -12,7 +14,9 @@ pub slice_bounds-text-end : goal.slice_bounds-text-end
 slice_bounds-text-end c = rw c.report-length.ensures.text (simp length-sets (omega arith))
 
 pub slice_bounds-report-end : goal.slice_bounds-report-end
-slice_bounds-report-end c = sym (length-take-le _ _ (array-share-prefix-batch c))
+slice_bounds-report-end c = sym (length-take-le _ _ (rw c.in-Bytes.is at c.read_input.ensures))
 
 pub slice_bounds-write_all-end-2 : goal.slice_bounds-write_all-end-2
-slice_bounds-write_all-end-2 c = sym (length-take-le _ _ (array-share-prefix-text c))
+slice_bounds-write_all-end-2 c =
+    let inside : c.report-length.result ≤ length c.report-length.new.out = rw c.report-length.ensures.text (simp length-sets (omega arith)) in
+    sym (length-take-le _ _ inside)

@@ -1,6 +1,6 @@
 -- The refusal, or the text of the trace up to its rows.
 use mathlib.Core.Path.{◌≡◌, sym, ap, ◌∙◌}
-use Prim.Native.Nat.{◌*◌}
+use Prim.Native.Nat.{◌*◌, ◌≤◌}
 use native.Mathlib.Omega.{arith}
 use lib.ListN.{length, take}
 use lib.Seq.{sets, length-take-le}
@@ -16,21 +16,25 @@ use Rattle.inspect_report.proofs.report.Goals as goal
 pub overflow_mul-end : goal.overflow_mul-end
 overflow_mul-end c =
     let opened : Within c.in-Opened.counts 1248 128 128 128 64 64 = within_opened c.args.batch.now c.in-Opened.counts (sym c.open_trace-answer.ensures.answer ∙ c.in-Opened.is) in
-    let few = (opened).in_trace in search rules
+    let few = opened.in_trace in search rules
 
 pub slice_bounds-trace-end : goal.slice_bounds-trace-end
 slice_bounds-trace-end c =
     let opened : Within c.in-Opened.counts 1248 128 128 128 64 64 = within_opened c.args.batch.now c.in-Opened.counts (sym c.open_trace-answer.ensures.answer ∙ c.in-Opened.is) in
-    omega (arith, (opened).in_trace, c.open_trace-answer.ensures.length)
+    omega (arith, opened.in_trace, c.open_trace-answer.ensures.length)
 
 pub slice_bounds-put_trace-end : goal.slice_bounds-put_trace-end
-slice_bounds-put_trace-end c = sym (length-take-le _ _ (array-share-prefix-trace c))
+slice_bounds-put_trace-end c =
+    let opened : Within c.in-Opened.counts 1248 128 128 128 64 64 = within_opened c.args.batch.now c.in-Opened.counts (sym c.open_trace-answer.ensures.answer ∙ c.in-Opened.is) in
+    let inside : c.in-Opened.counts.rows * 39 ≤ length c.open_trace-answer.new.trace = omega (arith, opened.in_trace, c.open_trace-answer.ensures.length) in
+    sym (length-take-le _ _ inside)
 
 pub put_trace-requires : goal.put_trace-requires
 put_trace-requires c =
     let opened : Within c.in-Opened.counts 1248 128 128 128 64 64 = within_opened c.args.batch.now c.in-Opened.counts (sym c.open_trace-answer.ensures.answer ∙ c.in-Opened.is) in
-    let read = length-take-le (c.in-Opened.counts.rows * 39) c.open_trace-answer.new.trace (array-share-prefix-trace c) in
-    (omega (arith, (opened).in_trace, read), search rules)
+    let inside : c.in-Opened.counts.rows * 39 ≤ length c.open_trace-answer.new.trace = omega (arith, opened.in_trace, c.open_trace-answer.ensures.length) in
+    let read = length-take-le (c.in-Opened.counts.rows * 39) c.open_trace-answer.new.trace inside in
+    (omega (arith, opened.in_trace, read), search rules)
 
 pub returns-in-Refused : goal.returns-in-Refused
 unfolding inspect_text

@@ -6,4 +6,4 @@ use Rattle.tealbobbin.proofs.tealbobbin_extend.Goals as goal
 
 pub returns : goal.returns
 returns c =
-    (c.answer_number.ensures ∙ ap answer_number_of c.extend.ensures.answer, c.extend.ensures.REST1)
+    record { number = c.answer_number.ensures ∙ ap answer_number_of c.extend.ensures.answer; extended = c.extend.ensures.extended; cleared = c.extend.ensures.cleared }

@@ -6,4 +6,4 @@ use Rattle.tealbobbin.proofs.tealbobbin_extend_strict.Goals as goal
 
 pub returns : goal.returns
 returns c =
-    (c.answer_number.ensures ∙ ap answer_number_of c.extend_strict.ensures.answer, c.extend_strict.ensures.REST1)
+    record { number = c.answer_number.ensures ∙ ap answer_number_of c.extend_strict.ensures.answer; extended = c.extend_strict.ensures.extended; cleared = c.extend_strict.ensures.cleared }

@@ -21,15 +21,15 @@ opened_cells-requires c =
     let w = within_opened c.args.batch.now c.in-Opened.counts (sym c.open-answer.ensures.answer ∙ c.in-Opened.is) in
     let kept = c.open-answer.auto in record {
       within = record {
-        in_trace = omega (arith, w.in_trace, kept.1.0);
-        in_op_stack = omega (arith, w.in_op_stack, kept.1.1.0);
-        in_ram = omega (arith, w.in_ram, kept.1.1.1.0);
-        in_jump_stack = omega (arith, w.in_jump_stack, kept.1.1.1.1.0);
-        in_input = omega (arith, w.in_input, kept.1.1.1.1.1.1.1.0);
-        in_output = omega (arith, w.in_output, kept.1.1.1.1.1.1.1.1.0);
+        in_trace = omega (arith, w.in_trace, kept.trace);
+        in_op_stack = omega (arith, w.in_op_stack, kept.op_stack);
+        in_ram = omega (arith, w.in_ram, kept.ram);
+        in_jump_stack = omega (arith, w.in_jump_stack, kept.jump_stack);
+        in_input = omega (arith, w.in_input, kept.input);
+        in_output = omega (arith, w.in_output, kept.output);
         height = w.height;
       };
-      trace_len_bound = omega (arith, kept.1.0);
+      trace_len_bound = omega (arith, kept.trace);
     }
 
 pub returns-in-Refused : goal.returns-in-Refused

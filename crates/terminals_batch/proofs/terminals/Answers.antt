@@ -19,19 +19,19 @@ returns-then-cells-ne-AUX_WORDS c = let e = ne_eqb (length c.args.cells.now) 33 
 
 pub slice_bounds-copy_row-end : goal.slice_bounds-copy_row-end
 slice_bounds-copy_row-end c =
-    let batch : List ℕ = there.args.batch.now in
-    let done : terminals_answer batch ≡ Done = sym there.last-cells.ensures.0 ∙ c.in-Done.is in
-    let cells : there.last-cells.last.1.0 ≡ terminals_cells batch = there.last-cells.ensures.1 ∙ ap (λ a. on_done a (terminals_cells batch) (replicate 33 0)) c.in-Done.is in
-    let row : length there.last-cells.last.1.0 ≡ 33 = ap length cells ∙ cells_long batch done in
-    sym (row)
+    let batch : List ℕ = c.args.batch.now in
+    let done : terminals_answer batch ≡ Done = sym c.last_cells-answer.ensures.answer ∙ c.in-Done.is in
+    let cells : c.last_cells-answer.new.cells ≡ terminals_cells batch = c.last_cells-answer.ensures.cells ∙ ap (λ a. on_done a (terminals_cells batch) (replicate 33 0)) c.in-Done.is in
+    let row : length c.last_cells-answer.new.cells ≡ 33 = ap length cells ∙ cells_long batch done in
+    sym row
 
 pub copy_row-requires : goal.copy_row-requires
 copy_row-requires c =
     let long : length c.args.cells.now ≡ 33 = omega (arith, c.if-cells-ne-AUX_WORDS.false) in
-    let batch : List ℕ = there.args.batch.now in
-    let done : terminals_answer batch ≡ Done = sym there.last-cells.ensures.0 ∙ c.in-Done.is in
-    let cells : there.last-cells.last.1.0 ≡ terminals_cells batch = there.last-cells.ensures.1 ∙ ap (λ a. on_done a (terminals_cells batch) (replicate 33 0)) c.in-Done.is in
-    let row : length there.last-cells.last.1.0 ≡ 33 = ap length cells ∙ cells_long batch done in
+    let batch : List ℕ = c.args.batch.now in
+    let done : terminals_answer batch ≡ Done = sym c.last_cells-answer.ensures.answer ∙ c.in-Done.is in
+    let cells : c.last_cells-answer.new.cells ≡ terminals_cells batch = c.last_cells-answer.ensures.cells ∙ ap (λ a. on_done a (terminals_cells batch) (replicate 33 0)) c.in-Done.is in
+    let row : length c.last_cells-answer.new.cells ≡ 33 = ap length cells ∙ cells_long batch done in
     (row, long)
 
 pub returns-in-Refused : goal.returns-in-Refused
@@ -39,13 +39,13 @@ unfolding terminals_into cells_into
 returns-in-Refused c =
     let long : length c.args.cells.now ≡ 33 = omega (arith, c.if-cells-ne-AUX_WORDS.false) in
     let refused = sym c.last_cells-answer.ensures.answer ∙ c.in-Refused.is in
-    let e = eq-eqb (length c.args.cells.now) 33 (long) in record { answer = rw (e, refused); cells = rw (e, refused) }
+    let e = eq-eqb (length c.args.cells.now) 33 long in record { answer = rw (e, refused); cells = rw (e, refused) }
 
 pub returns-in-Done : goal.returns-in-Done
 unfolding terminals_into cells_into
 returns-in-Done c =
     let long : length c.args.cells.now ≡ 33 = omega (arith, c.if-cells-ne-AUX_WORDS.false) in
-    let batch : List ℕ = there.args.batch.now in
-    let done : terminals_answer batch ≡ Done = sym there.last-cells.ensures.0 ∙ c.in-Done.is in
-    let cells : there.last-cells.last.1.0 ≡ terminals_cells batch = there.last-cells.ensures.1 ∙ ap (λ a. on_done a (terminals_cells batch) (replicate 33 0)) c.in-Done.is in
-    let e = eq-eqb (length c.args.cells.now) 33 (long) in record { answer = rw (e, done); cells = c.copy_row.ensures ∙ cells ∙ rw (e, done) }
+    let batch : List ℕ = c.args.batch.now in
+    let done : terminals_answer batch ≡ Done = sym c.last_cells-answer.ensures.answer ∙ c.in-Done.is in
+    let cells : c.last_cells-answer.new.cells ≡ terminals_cells batch = c.last_cells-answer.ensures.cells ∙ ap (λ a. on_done a (terminals_cells batch) (replicate 33 0)) c.in-Done.is in
+    let e = eq-eqb (length c.args.cells.now) 33 long in record { answer = rw (e, done); cells = c.copy_row.ensures ∙ cells ∙ rw (e, done) }

@@ -1,11 +1,11 @@
 -- An arm for each command.
 use borrow.Author.Rules.{rules}
-use mathlib.Core.Logic.{⊎_elim}
 use mathlib.Core.List.{List}
 use Prim.Native.Nat.{ℕ}
 use lib.ListN.{get_or}
 use Rattle.batch_commands.proofs.Tables.{arm, no_other}
 use Rattle.batch_commands.proofs.unchecked.count.Goals as goal
+use Rattle.batch_commands.proofs.unchecked.count.Goals.{in-10-1, in_default-1}
 
 abbrev counted : List ℕ → ℕ → ℕ
 counted came code = get_or came code 0
@@ -44,4 +44,4 @@ pub returns-in-11 : goal.returns-in-11
 returns-in-11 c = arm (counted c.args.came) c.in-11.is
 
 pub returns-in-10 : goal.returns-in-10
-returns-in-10 c = arm (counted c.args.came) (⊎_elim (λ k. k.keys12) (λ r. absurd (no_other _ c.requires r.rest)) c.in-10-1.branch)
+returns-in-10 c = arm (counted c.args.came) (elim c.in-10-1.branch [ in-10-1 w ↦ w.in-10-1.keys12 | in_default-1 w ↦ absurd (no_other _ c.requires w.in_default-1.rest) ])

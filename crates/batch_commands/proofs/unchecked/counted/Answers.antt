@@ -1,13 +1,13 @@
 -- An arm for each command.
 use borrow.Author.Rules.{rules}
 use mathlib.Core.Path.{◌≡◌, sym, ap}
-use mathlib.Core.Logic.{⊎_elim}
 use mathlib.Core.List.{List}
 use Prim.Native.Nat.{ℕ, ◌+◌, ◌≤◌, ◌<◌, ◌^◌}
 use native.Mathlib.Omega.{arith}
 use lib.ListN.{get_or, set}
 use Rattle.batch_commands.proofs.Tables.{no_other}
 use Rattle.batch_commands.proofs.unchecked.counted.Goals as goal
+use Rattle.batch_commands.proofs.unchecked.counted.Goals.{in-10-1, in_default-1}
 
 room : (came : List ℕ) {code k : ℕ} → code ≡ k → get_or came code 0 ≤ 128 → get_or came k 0 + 1 < 2 ^ 64
 room came e h = omega (arith, ap (λ c. get_or came c 0) e)
@@ -49,7 +49,7 @@ pub overflow_add-came-in-11 : goal.overflow_add-came-in-11
 overflow_add-came-in-11 c = record { fits = room c.args.came c.in-11.is c.requires.1 }
 
 pub overflow_add-came-in-10 : goal.overflow_add-came-in-10
-overflow_add-came-in-10 c = record { fits = room c.args.came (⊎_elim (λ k. k.keys12) (λ r. absurd (no_other _ c.requires.0 r.rest)) c.in-10-1.branch) c.requires.1 }
+overflow_add-came-in-10 c = record { fits = room c.args.came (elim c.in-10-1.branch [ in-10-1 w ↦ w.in-10-1.keys12 | in_default-1 w ↦ absurd (no_other _ c.requires.0 w.in_default-1.rest) ]) c.requires.1 }
 
 pub returns-in-0 : goal.returns-in-0
 returns-in-0 c = one_more c.args.came c.in-0.is
@@ -85,4 +85,4 @@ pub returns-in-11 : goal.returns-in-11
 returns-in-11 c = one_more c.args.came c.in-11.is
 
 pub returns-in-10 : goal.returns-in-10
-returns-in-10 c = one_more c.args.came (⊎_elim (λ k. k.keys12) (λ r. absurd (no_other _ c.requires.0 r.rest)) c.in-10-1.branch)
+returns-in-10 c = one_more c.args.came (elim c.in-10-1.branch [ in-10-1 w ↦ w.in-10-1.keys12 | in_default-1 w ↦ absurd (no_other _ c.requires.0 w.in_default-1.rest) ])

@@ -37,7 +37,7 @@ pub returns-in-11 : goal.returns-in-11
 returns-in-11 c = arm (limit c.args.rows) c.in-11.is
 
 pub returns-in-10 : goal.returns-in-10
-returns-in-10 c = arm (limit c.args.rows) c.in-10.keys12
+returns-in-10 c = arm (limit c.args.rows) c.in-10.in-10-own.keys12
 
 pub returns-in-10-2 : goal.returns-in-10-2
-returns-in-10-2 c = absurd (no_other _ c.requires c.in-10.rest)
+returns-in-10-2 c = absurd (no_other _ c.requires c.in-10.in-10-own.rest)

@@ -1,19 +1,25 @@
 -- The first byte says the form.
 use borrow.Author.Rules.{rules}
 use mathlib.Core.Path.{◌≡◌}
-use Prim.Native.Nat.{◌≤◌}
+use mathlib.Core.List.{List}
+use Prim.Native.Nat.{ℕ, ◌≤◌}
 use native.Mathlib.Omega.{arith}
 use lib.Dec.{lit<}
 use lib.ListN.{length}
 use Rattle.field_montgomery.specs.declared.Form.{Form}
 use Rattle.field_montgomery.specs.declared.Form.TheVariants.{Plain, Montgomery}
 use Rattle.field_montgomery.proofs.Many.{length-plain}
+use Rattle.batch_commands.specs.Format.{ROW}
 use Rattle.batch_commands.specs.Form.{row_command}
 use Rattle.batch_reader.specs.Commands.{contents, form_of}
 use Rattle.batch_reader.specs.Reading.{reading, commands_of}
+use Rattle.batch_reader.specs.Answers.{brought}
 use Rattle.batch_reader.proofs.Sections.{rows-there, plain-there, montgomery-there}
 use Rattle.batch_reader.proofs.Rows.{rows_are}
 use Rattle.batch_reader.proofs.unchecked.put_rows.Goals as goal
+
+room : (batch slice : List ℕ) (form : Form) → form_of (commands_of (reading batch)) ≡ form → length (brought ROW batch) ≤ length slice → length (contents (row_command form) (commands_of (reading batch))) ≤ length slice
+room batch slice form e h = rw (length-plain form (contents (row_command form) (commands_of (reading batch)))) at (rw (rows_are batch form e) at h)
 
 pub bounds-batch-at : goal.bounds-batch-at
 bounds-batch-at c = let n = rows-there c.args.batch.now c.requires.batch_value c.args.at c.requires.at_value in omega arith
@@ -24,19 +30,29 @@ overflow_cast-batch c = omega (arith, c.type_inv.batch c.args.at)
 pub put_section-requires : goal.put_section-requires
 put_section-requires c =
     let is_montgomery : form_of (commands_of (reading c.args.batch.now)) ≡ Montgomery = montgomery-there c.args.batch.now c.requires.batch_value c.args.at c.requires.at_value c.if-batch-at-eq-MONTGOMERY_ROW.true in
-    let room : form_of (commands_of (reading c.args.batch.now)) ≡ form → length (contents (row_command form) (commands_of (reading c.args.batch.now))) ≤ length c.args.slice.now = λ form e. rw (length-plain form (contents (row_command form) (commands_of (reading c.args.batch.now)))) at (rw (rows_are c.args.batch.now form e) at c.requires.batch_in_bounds) in record { batch_value = c.requires.batch_value; wanted_nonzero = (lit< tt, lit< tt, rw (is_montgomery) (λ z. omega arith)); at_value = c.requires.at_value; batch_in_bounds = room Montgomery (is_montgomery) }
+    record {
+      batch_value = c.requires.batch_value;
+      wanted_nonzero = (lit< tt, lit< tt, rw is_montgomery (λ z. omega arith));
+      at_value = c.requires.at_value;
+      batch_in_bounds = room c.args.batch.now c.args.slice.now Montgomery is_montgomery c.requires.batch_in_bounds;
+    }
 
 pub put_section-requires-else-batch-at-eq-MONTGOMERY_ROW : goal.put_section-requires-else-batch-at-eq-MONTGOMERY_ROW
 put_section-requires-else-batch-at-eq-MONTGOMERY_ROW c =
     let is_plain : form_of (commands_of (reading c.args.batch.now)) ≡ Plain = plain-there c.args.batch.now c.requires.batch_value c.args.at c.requires.at_value c.if-batch-at-eq-MONTGOMERY_ROW.false in
-    let room : form_of (commands_of (reading c.args.batch.now)) ≡ form → length (contents (row_command form) (commands_of (reading c.args.batch.now))) ≤ length c.args.slice.now = λ form e. rw (length-plain form (contents (row_command form) (commands_of (reading c.args.batch.now)))) at (rw (rows_are c.args.batch.now form e) at c.requires.batch_in_bounds) in record { batch_value = c.requires.batch_value; wanted_nonzero = (lit< tt, lit< tt, rw (is_plain) (λ z. omega arith)); at_value = c.requires.at_value; batch_in_bounds = room Plain (is_plain) }
+    record {
+      batch_value = c.requires.batch_value;
+      wanted_nonzero = (lit< tt, lit< tt, rw is_plain (λ z. omega arith));
+      at_value = c.requires.at_value;
+      batch_in_bounds = room c.args.batch.now c.args.slice.now Plain is_plain c.requires.batch_in_bounds;
+    }
 
 pub returns-then-batch-at-eq-MONTGOMERY_ROW : goal.returns-then-batch-at-eq-MONTGOMERY_ROW
 returns-then-batch-at-eq-MONTGOMERY_ROW c =
     let is_montgomery : form_of (commands_of (reading c.args.batch.now)) ≡ Montgomery = montgomery-there c.args.batch.now c.requires.batch_value c.args.at c.requires.at_value c.if-batch-at-eq-MONTGOMERY_ROW.true in
-    rw (rows_are c.args.batch.now Montgomery (is_montgomery)) c.put_section.ensures.REST0
+    record { value = c.put_section.ensures.value; slice_after = rw (rows_are c.args.batch.now Montgomery is_montgomery) c.put_section.ensures.slice_after }
 
 pub returns-else-batch-at-eq-MONTGOMERY_ROW : goal.returns-else-batch-at-eq-MONTGOMERY_ROW
 returns-else-batch-at-eq-MONTGOMERY_ROW c =
     let is_plain : form_of (commands_of (reading c.args.batch.now)) ≡ Plain = plain-there c.args.batch.now c.requires.batch_value c.args.at c.requires.at_value c.if-batch-at-eq-MONTGOMERY_ROW.false in
-    rw (rows_are c.args.batch.now Plain (is_plain)) c.put_section-else-batch-at-eq-MONTGOMERY_ROW.ensures.REST0
+    record { value = c.put_section-else-batch-at-eq-MONTGOMERY_ROW.ensures.value; slice_after = rw (rows_are c.args.batch.now Plain is_plain) c.put_section-else-batch-at-eq-MONTGOMERY_ROW.ensures.slice_after }

@@ -26,45 +26,45 @@ returns-then-batch-place c = let all = ends c.args.batch.now c.args.wanted c.req
 
 pub overflow_add-place : goal.overflow_add-place
 overflow_add-place c =
-    let inside : c.loop-place.place + 1 + width c.args.wanted ≤ length c.args.batch.now = fits c.args.batch.now c.args.wanted c.requires.batch_value c.requires.wanted_nonzero.0 c.requires.wanted_nonzero.1 c.args.form c.args.slice.now c.loop-place.slice c.loop-place.to c.loop-place.place c.loop-place.inv c.if-batch-place.false in
+    let inside : c.loop-place.place + 1 + width c.args.wanted ≤ length c.args.batch.now = fits c.args.batch.now c.args.wanted c.requires.batch_value c.requires.wanted_nonzero.0 c.requires.wanted_nonzero.1 c.args.form c.args.slice.now c.loop-place.slice c.loop-place.to c.loop-place.place c.loop-place.invariant c.if-batch-place.false in
     let h = inside in omega arith
 
 pub put_words-requires : goal.put_words-requires
 put_words-requires c =
     let wide : c.width-width.result ≡ width c.args.wanted = c.width-width.ensures in
-    let inside : c.loop-place.place + 1 + width c.args.wanted ≤ length c.args.batch.now = fits c.args.batch.now c.args.wanted c.requires.batch_value c.requires.wanted_nonzero.0 c.requires.wanted_nonzero.1 c.args.form c.args.slice.now c.loop-place.slice c.loop-place.to c.loop-place.place c.loop-place.inv c.if-batch-place.false in
-    let spare : c.loop-place.to + c.width-width.result / 8 ≤ length c.loop-place.slice = let h = room c.args.batch.now c.args.wanted c.requires.batch_value c.requires.wanted_nonzero.0 c.requires.wanted_nonzero.1 c.args.form c.args.slice.now c.loop-place.slice c.loop-place.to c.loop-place.place c.loop-place.inv c.if-batch-place.false c.requires.batch_in_bounds in
+    let inside : c.loop-place.place + 1 + width c.args.wanted ≤ length c.args.batch.now = fits c.args.batch.now c.args.wanted c.requires.batch_value c.requires.wanted_nonzero.0 c.requires.wanted_nonzero.1 c.args.form c.args.slice.now c.loop-place.slice c.loop-place.to c.loop-place.place c.loop-place.invariant c.if-batch-place.false in
+    let spare : c.loop-place.to + c.width-width.result / 8 ≤ length c.loop-place.slice = let h = room c.args.batch.now c.args.wanted c.requires.batch_value c.requires.wanted_nonzero.0 c.requires.wanted_nonzero.1 c.args.form c.args.slice.now c.loop-place.slice c.loop-place.to c.loop-place.place c.loop-place.invariant c.if-batch-place.false c.requires.batch_in_bounds in
     omega (arith, wide) in
     let h = inside in record { n_in_bounds = omega (arith, wide); n_in_bounds_2 = spare }
 
 pub overflow_add-to : goal.overflow_add-to
 overflow_add-to c =
     let wide : c.width-width.result ≡ width c.args.wanted = c.width-width.ensures in
-    let spare : c.loop-place.to + c.width-width.result / 8 ≤ length c.loop-place.slice = let h = room c.args.batch.now c.args.wanted c.requires.batch_value c.requires.wanted_nonzero.0 c.requires.wanted_nonzero.1 c.args.form c.args.slice.now c.loop-place.slice c.loop-place.to c.loop-place.place c.loop-place.inv c.if-batch-place.false c.requires.batch_in_bounds in
+    let spare : c.loop-place.to + c.width-width.result / 8 ≤ length c.loop-place.slice = let h = room c.args.batch.now c.args.wanted c.requires.batch_value c.requires.wanted_nonzero.0 c.requires.wanted_nonzero.1 c.args.form c.args.slice.now c.loop-place.slice c.loop-place.to c.loop-place.place c.loop-place.invariant c.if-batch-place.false c.requires.batch_in_bounds in
     omega (arith, wide) in
     let h = spare in omega arith
 
 pub overflow_add-place-in-loop-place : goal.overflow_add-place-in-loop-place
 overflow_add-place-in-loop-place c =
-    let inside : c.loop-place.place + 1 + width c.args.wanted ≤ length c.args.batch.now = fits c.args.batch.now c.args.wanted c.requires.batch_value c.requires.wanted_nonzero.0 c.requires.wanted_nonzero.1 c.args.form c.args.slice.now c.loop-place.slice c.loop-place.to c.loop-place.place c.loop-place.inv c.if-batch-place.false in
+    let inside : c.loop-place.place + 1 + width c.args.wanted ≤ length c.args.batch.now = fits c.args.batch.now c.args.wanted c.requires.batch_value c.requires.wanted_nonzero.0 c.requires.wanted_nonzero.1 c.args.form c.args.slice.now c.loop-place.slice c.loop-place.to c.loop-place.place c.loop-place.invariant c.if-batch-place.false in
     let h = inside in omega arith
 
 pub overflow_add-place-in-loop-place-2 : goal.overflow_add-place-in-loop-place-2
 overflow_add-place-in-loop-place-2 c =
     let wide : c.width-width.result ≡ width c.args.wanted = c.width-width.ensures in
-    let inside : c.loop-place.place + 1 + width c.args.wanted ≤ length c.args.batch.now = fits c.args.batch.now c.args.wanted c.requires.batch_value c.requires.wanted_nonzero.0 c.requires.wanted_nonzero.1 c.args.form c.args.slice.now c.loop-place.slice c.loop-place.to c.loop-place.place c.loop-place.inv c.if-batch-place.false in
+    let inside : c.loop-place.place + 1 + width c.args.wanted ≤ length c.args.batch.now = fits c.args.batch.now c.args.wanted c.requires.batch_value c.requires.wanted_nonzero.0 c.requires.wanted_nonzero.1 c.args.form c.args.slice.now c.loop-place.slice c.loop-place.to c.loop-place.place c.loop-place.invariant c.if-batch-place.false in
     let h = inside in omega (arith, wide)
 
 pub loop-place-smaller : goal.loop-place-smaller
 loop-place-smaller c =
     let wide : c.width-width.result ≡ width c.args.wanted = c.width-width.ensures in
-    let inside : c.loop-place.place + 1 + width c.args.wanted ≤ length c.args.batch.now = fits c.args.batch.now c.args.wanted c.requires.batch_value c.requires.wanted_nonzero.0 c.requires.wanted_nonzero.1 c.args.form c.args.slice.now c.loop-place.slice c.loop-place.to c.loop-place.place c.loop-place.inv c.if-batch-place.false in
+    let inside : c.loop-place.place + 1 + width c.args.wanted ≤ length c.args.batch.now = fits c.args.batch.now c.args.wanted c.requires.batch_value c.requires.wanted_nonzero.0 c.requires.wanted_nonzero.1 c.args.form c.args.slice.now c.loop-place.slice c.loop-place.to c.loop-place.place c.loop-place.invariant c.if-batch-place.false in
     let h = inside in omega (arith, wide)
 
 pub loop-place-preserved : goal.loop-place-preserved
 loop-place-preserved c =
     let wide : c.width-width.result ≡ width c.args.wanted = c.width-width.ensures in
-    rw (wide) (goes_on c.args.batch.now c.args.wanted c.requires.batch_value c.requires.wanted_nonzero.0 c.requires.wanted_nonzero.1 c.args.form c.args.slice.now c.loop-place.slice c.loop-place.to c.loop-place.place c.loop-place.inv c.if-batch-place.false _ c.put_words.auto.slice (rw (wide) at c.put_words.ensures))
+    rw (wide) (goes_on c.args.batch.now c.args.wanted c.requires.batch_value c.requires.wanted_nonzero.0 c.requires.wanted_nonzero.1 c.args.form c.args.slice.now c.loop-place.slice c.loop-place.to c.loop-place.place c.loop-place.invariant c.if-batch-place.false _ c.put_words.auto.slice (rw (wide) at c.put_words.ensures))
 
 pub shape_of-slice : goal.shape_of-slice
 shape_of-slice c = c.loop-place.invariant.same_length

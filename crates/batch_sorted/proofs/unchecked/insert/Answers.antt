@@ -2,13 +2,13 @@
 use borrow.Author.Rules.{rules}
 use mathlib.Core.Path.{◌≡◌, refl, sym, ◌∙◌}
 use mathlib.Core.List.{◌++◌}
-use mathlib.Core.Logic.{⊎_elim}
 use Prim.Native.Nat.{◌+◌, ◌-◌, ◌<◌}
 use native.Mathlib.Omega.{arith}
 use lib.ListN.{length, take, drop, length-set}
 use Rattle.batch_sorted.specs.Sorted.{inserted}
 use Rattle.batch_sorted.proofs.Inserting.{moves, stays, ends}
 use Rattle.batch_sorted.proofs.unchecked.insert.Goals as goal
+use Rattle.batch_sorted.proofs.unchecked.insert.Goals.{else-loop-i-test, then-loop-i-test+then-word-next}
 
 pub loop-i-init : goal.loop-i-init
 loop-i-init c = (search rules, refl, refl)
@@ -30,4 +30,4 @@ returns c =
     let word = c.args.word in
     let i = c.loop-i.i in
     let inside = c.loop-i.invariant.0 in
-    sym (c.loop-i.invariant.2 ∙ ⊎_elim (λ w. ends room word i inside w.left) (λ w. stays room word i w.0.taken w.2.taken) c.loop-i-test.branch)
+    sym (c.loop-i.invariant.2 ∙ (elim c.loop-i-test.branch [ else-loop-i-test w ↦ ends room word i inside w.loop-i-test.false | then-loop-i-test+then-word-next w ↦ stays room word i w.loop-i-test.true w.if-word-next.true ]))

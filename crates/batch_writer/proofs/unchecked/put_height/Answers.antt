@@ -12,7 +12,7 @@ use Rattle.batch_writer.proofs.Laying.{laid_height}
 use Rattle.batch_writer.proofs.unchecked.put_height.Goals as goal
 
 pub returns-then-log2_height-eq0 : goal.returns-then-log2_height-eq0
-returns-then-log2_height-eq0 c = let args = c.args in record { value = rw (laid_height args.log2_height, eq-eqb _ 0 c.if-log2_height-eq0.true) (omega arith); batch_after = rw (laid_height args.log2_height, eq-eqb _ 0 c.if-log2_height-eq0.true) (pasted_none args.batch.now 5) }
+returns-then-log2_height-eq0 c = let args = c.args in record { value = rw (eq-eqb _ 0 c.if-log2_height-eq0.true); batch_after = rw (laid_height args.log2_height, eq-eqb _ 0 c.if-log2_height-eq0.true) (pasted_none args.batch.now 5) }
 
 pub bounds-batch-5 : goal.bounds-batch-5
 bounds-batch-5 c =
@@ -30,4 +30,4 @@ returns c =
     let there : 7 ≤ length c.args.batch.now = rw (ne_eqb _ 0 c.if-log2_height-eq0.false) at c.requires.1 in
     let args = c.args in
     let k = args.log2_height in
-    let small : k % 256 ≡ k = omega (arith, c.requires.0) in record { value = rw (laid_height k, ne_eqb k 0 c.if-log2_height-eq0.false, small) (omega arith); batch_after = rw (laid_height k, ne_eqb k 0 c.if-log2_height-eq0.false, small) (stored args.batch.now 5 11 (k ∷ []) (there)) }
+    let small : k % 256 ≡ k = omega (arith, c.requires.0) in record { value = rw (ne_eqb k 0 c.if-log2_height-eq0.false); batch_after = rw (laid_height k, ne_eqb k 0 c.if-log2_height-eq0.false, small) (stored args.batch.now 5 11 (k ∷ []) (there)) }

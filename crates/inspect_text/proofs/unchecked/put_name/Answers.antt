@@ -17,7 +17,7 @@ pub slice_bounds-bytes-end : goal.slice_bounds-bytes-end
 slice_bounds-bytes-end c = within c.instruction-name.ensures.name
 
 pub slice_bounds-put_bytes-end : goal.slice_bounds-put_bytes-end
-slice_bounds-put_bytes-end c = sym (length-take-le _ _ (array-share-prefix-bytes c))
+slice_bounds-put_bytes-end c = sym (length-take-le _ _ (within c.instruction-name.ensures.name))
 
 pub put_bytes-requires : goal.put_bytes-requires
 put_bytes-requires c =

@@ -17,30 +17,30 @@ use Rattle.terminals_cells.proofs.unchecked.filled_cells.Goals as goal
 
 pub padded_cells-requires : goal.padded_cells-requires
 padded_cells-requires c =
-    let trace : List ℕ = start.args.trace.now in
-    let table : List ℕ = start.args.table.now in
-    let height : ℕ = start.args.height in
-    let same : length (table) ≡ length c.fill-answer.new.table = omega (arith, c.fill-answer.auto.table) in record { table_value = subst (λ (n : ℕ). eqb (n % 39) 0 ≡ true) same c.requires.table_value; kept = subst (λ (n : ℕ). Kept (rows (trace)) (n / 39) (height)) same c.requires.kept }
+    let trace : List ℕ = c.args.trace.now in
+    let table : List ℕ = c.args.table.now in
+    let height : ℕ = c.args.height in
+    let same : length table ≡ length c.fill-answer.new.table = omega (arith, c.fill-answer.auto.table) in record { table_value = subst (λ (n : ℕ). eqb (n % 39) 0 ≡ true) same c.requires.table_value; kept = subst (λ (n : ℕ). Kept (rows trace) (n / 39) height) same c.requires.kept }
 
 pub returns-in-Refused : goal.returns-in-Refused
 unfolding filledAnswer
 returns-in-Refused c =
-    let trace : List ℕ = start.args.trace.now in
-    let table : List ℕ = start.args.table.now in
-    let height : ℕ = start.args.height in
-    let same_answer : fill_answer trace start.args.op_stack.now start.args.ram.now start.args.jump_stack.now (longer height table) ≡ fill_answer trace start.args.op_stack.now start.args.ram.now start.args.jump_stack.now table = law.same_answer trace start.args.op_stack.now start.args.ram.now start.args.jump_stack.now table height start.pre.0 start.pre.1 in record { answer = rw (same_answer ∙ sym c.fill-answer.ensures.answer ∙ c.in-Refused.is); cells = refl }
+    let trace : List ℕ = c.args.trace.now in
+    let table : List ℕ = c.args.table.now in
+    let height : ℕ = c.args.height in
+    let same_answer : fill_answer trace c.args.op_stack.now c.args.ram.now c.args.jump_stack.now (longer height table) ≡ fill_answer trace c.args.op_stack.now c.args.ram.now c.args.jump_stack.now table = law.same_answer trace c.args.op_stack.now c.args.ram.now c.args.jump_stack.now table height c.requires.table_value c.requires.kept in record { answer = rw (same_answer ∙ sym c.fill-answer.ensures.answer ∙ c.in-Refused.is); cells = refl }
 
 pub returns-in-Done : goal.returns-in-Done
 unfolding filledAnswer filledCells
 returns-in-Done c =
-    let trace : List ℕ = start.args.trace.now in
-    let table : List ℕ = start.args.table.now in
-    let height : ℕ = start.args.height in
-    let same_answer : fill_answer trace start.args.op_stack.now start.args.ram.now start.args.jump_stack.now (longer height table) ≡ fill_answer trace start.args.op_stack.now start.args.ram.now start.args.jump_stack.now table = law.same_answer trace start.args.op_stack.now start.args.ram.now start.args.jump_stack.now table height start.pre.0 start.pre.1 in
-    let filled_is : longer height c.fill-answer.new.table ≡ fill_table trace start.args.op_stack.now start.args.ram.now start.args.jump_stack.now (longer height table) = ap (longer height) c.fill-answer.ensures.filled
-    ∙ sym (law.same-table trace start.args.op_stack.now start.args.ram.now start.args.jump_stack.now table height start.pre.0 start.pre.1) in
+    let trace : List ℕ = c.args.trace.now in
+    let table : List ℕ = c.args.table.now in
+    let height : ℕ = c.args.height in
+    let same_answer : fill_answer trace c.args.op_stack.now c.args.ram.now c.args.jump_stack.now (longer height table) ≡ fill_answer trace c.args.op_stack.now c.args.ram.now c.args.jump_stack.now table = law.same_answer trace c.args.op_stack.now c.args.ram.now c.args.jump_stack.now table height c.requires.table_value c.requires.kept in
+    let filled_is : longer height c.fill-answer.new.table ≡ fill_table trace c.args.op_stack.now c.args.ram.now c.args.jump_stack.now (longer height table) = ap (longer height) c.fill-answer.ensures.filled
+    ∙ sym (law.same-table trace c.args.op_stack.now c.args.ram.now c.args.jump_stack.now table height c.requires.table_value c.requires.kept) in
     let args = c.args in
     let len = rows args.trace.now in
     let challenges = args.challenges.now in
     let done = same_answer ∙ sym c.fill-answer.ensures.answer ∙ c.in-Done.is in
-    let full = fill_table args.trace.now args.op_stack.now args.ram.now args.jump_stack.now (longer args.height args.table.now) in record { answer = c.padded_cells.ensures.answer ∙ ap (λ t. paddedAnswer t len challenges) (filled_is) ∙ sym (ap (λ a. after a (paddedAnswer full len challenges)) done); cells = c.padded_cells.ensures.cells ∙ ap (λ t. on_done c.padded_cells.result (paddedCells t len challenges) args.cells.now) (filled_is) }
+    let full = fill_table args.trace.now args.op_stack.now args.ram.now args.jump_stack.now (longer args.height args.table.now) in record { answer = c.padded_cells.ensures.answer ∙ ap (λ t. paddedAnswer t len challenges) filled_is ∙ sym (ap (λ a. after a (paddedAnswer full len challenges)) done); cells = c.padded_cells.ensures.cells ∙ ap (λ t. on_done c.padded_cells.result (paddedCells t len challenges) args.cells.now) filled_is }

@@ -25,39 +25,33 @@ raise_multiplicity-requires c =
 
 pub walked_cells-requires : goal.walked_cells-requires
 walked_cells-requires c =
-    let told = counted in
-    let at-pad = told in
-    let start = at-pad in
-    let table : List ℕ = start.args.table.now in
-    let len : ℕ = start.args.table-len in
-    let height : ℕ = start.args.height in
-    let done : pad_answer table len ≡ Done = sym at-pad.pad.ensures.0 ∙ told.enum_told.given.1 in
-    let main : List ℕ = law.main table len height start.pre.0 start.pre.1 done in
-    let main-is : c.raise_multiplicity.new.table ≡ main = let e : counted.rows-below.result ≡ height - rows table = omega (arith, counted.rows-below.ensures, at-pad.pad.kept.0) in
-    c.raise_multiplicity.ensures ∙ (λ i. raised (at-pad.pad.ensures.1 i) 1 (e i)) in
-    let growing : Growing main height = law.growing table len height start.pre.0 start.pre.1 done in
-    let e = sym (main-is) in record { growing = subst (λ t. Growing t (height)) e (growing); main_bound = subst (λ t. rows t ≤ 34) e (law.few (table) (len) (height) (start).requires.0 (start).requires.1 (done)) }
+    let table : List ℕ = c.args.table.now in
+    let len : ℕ = c.args.table_len in
+    let height : ℕ = c.args.height in
+    let done : pad_answer table len ≡ Done = sym c.pad-answer.ensures.answer ∙ c.in-Done.is in
+    let main : List ℕ = law.main table len height c.requires.table_value c.requires.kept done in
+    let main-is : c.raise_multiplicity.new.table ≡ main = let e : c.rows_below-more.result ≡ height - rows table = omega (arith, c.rows_below-more.ensures, c.pad-answer.auto.table) in
+    c.raise_multiplicity.ensures ∙ (λ i. raised (c.pad-answer.ensures.padded i) 1 (e i)) in
+    let growing : Growing main height = law.growing table len height c.requires.table_value c.requires.kept done in
+    let e = sym main-is in record { growing = subst (λ t. Growing t height) e growing; main_bound = subst (λ t. rows t ≤ 34) e (law.few table len height c.requires.table_value c.requires.kept done) }
 
 pub returns-in-Refused : goal.returns-in-Refused
 unfolding paddedAnswer
 returns-in-Refused c =
     let args = c.args in
-    let same = law.same_answer args.table.now args.table-len args.height c.requires.table_value c.requires.kept in record { answer = rw (same ∙ sym c.pad-answer.ensures.answer ∙ c.in-Refused.is); cells = refl }
+    let same = law.same_answer args.table.now args.table_len args.height c.requires.table_value c.requires.kept in record { answer = rw (same ∙ sym c.pad-answer.ensures.answer ∙ c.in-Refused.is); cells = refl }
 
 pub returns-in-Done : goal.returns-in-Done
 unfolding paddedAnswer paddedCells
 returns-in-Done c =
-    let told = counted in
-    let at-pad = told in
-    let start = at-pad in
-    let table : List ℕ = start.args.table.now in
-    let len : ℕ = start.args.table-len in
-    let height : ℕ = start.args.height in
-    let done : pad_answer table len ≡ Done = sym at-pad.pad.ensures.0 ∙ told.enum_told.given.1 in
-    let main : List ℕ = law.main table len height start.pre.0 start.pre.1 done in
-    let main-is : c.raise_multiplicity.new.table ≡ main = let e : counted.rows-below.result ≡ height - rows table = omega (arith, counted.rows-below.ensures, at-pad.pad.kept.0) in
-    c.raise_multiplicity.ensures ∙ (λ i. raised (at-pad.pad.ensures.1 i) 1 (e i)) in
-    let grown-is : pad_table (longer height table) len ≡ grown height main = law.grown-is table len height start.pre.0 start.pre.1 done in
-    let pad-done : pad_answer (longer height table) len ≡ Done = law.same_answer table len height start.pre.0 start.pre.1 ∙ done in
-    let challenges = (start).args.challenges.now in
-    let whole = ap (grown (height)) (main-is) ∙ sym (grown-is) in record { answer = c.walked_cells.ensures.answer ∙ ap (λ t. extendedAnswer t challenges) whole ∙ sym (ap (λ a. after a (extendedAnswer (pad_table (longer (height) (table)) (len)) challenges)) (pad-done)); cells = c.walked_cells.ensures.cells ∙ ap (λ t. on_done c.walked_cells.result (extendedCells t challenges) (start).args.cells.now) whole }
+    let table : List ℕ = c.args.table.now in
+    let len : ℕ = c.args.table_len in
+    let height : ℕ = c.args.height in
+    let done : pad_answer table len ≡ Done = sym c.pad-answer.ensures.answer ∙ c.in-Done.is in
+    let main : List ℕ = law.main table len height c.requires.table_value c.requires.kept done in
+    let main-is : c.raise_multiplicity.new.table ≡ main = let e : c.rows_below-more.result ≡ height - rows table = omega (arith, c.rows_below-more.ensures, c.pad-answer.auto.table) in
+    c.raise_multiplicity.ensures ∙ (λ i. raised (c.pad-answer.ensures.padded i) 1 (e i)) in
+    let grown-is : pad_table (longer height table) len ≡ grown height main = law.grown-is table len height c.requires.table_value c.requires.kept done in
+    let pad-done : pad_answer (longer height table) len ≡ Done = law.same_answer table len height c.requires.table_value c.requires.kept ∙ done in
+    let challenges = c.args.challenges.now in
+    let whole = ap (grown height) main-is ∙ sym grown-is in record { answer = c.walked_cells.ensures.answer ∙ ap (λ t. extendedAnswer t challenges) whole ∙ sym (ap (λ a. after a (extendedAnswer (pad_table (longer height table) len) challenges)) pad-done); cells = c.walked_cells.ensures.cells ∙ ap (λ t. on_done c.walked_cells.result (extendedCells t challenges) c.args.cells.now) whole }

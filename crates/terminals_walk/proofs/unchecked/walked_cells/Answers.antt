@@ -23,17 +23,17 @@ extended_cells-answer-requires c = (c.requires.growing.some, c.requires.main_bou
 
 pub walk_padding-requires : goal.walk_padding-requires
 walk_padding-requires c =
-    let main : List ℕ = start.args.main.now in
-    let height : ℕ = start.args.height in
-    let challenges : List ℕ = start.args.challenges.now in
-    let growing : Growing main height = start.pre.0 in
-    let done : extendedAnswer main challenges ≡ Done = sym extended.extended-cells.ensures.0 ∙ c.in-Done.is in
-    let words : extended.extended-cells.last.1.1.0 ≡ extendedCells main challenges = extended.extended-cells.ensures.1 ∙ ap (λ a. on_done a (extendedCells main challenges) start.args.cells.now) c.in-Done.is in
-    let ends : EndsInPadding (main) = (growing).window c.if-rows-height.true in
+    let main : List ℕ = c.args.main.now in
+    let height : ℕ = c.args.height in
+    let challenges : List ℕ = c.args.challenges.now in
+    let growing : Growing main height = c.requires.growing in
+    let done : extendedAnswer main challenges ≡ Done = sym c.extended_cells-answer.ensures.answer ∙ c.in-Done.is in
+    let words : c.extended_cells-answer.new.cells ≡ extendedCells main challenges = c.extended_cells-answer.ensures.cells ∙ ap (λ a. on_done a (extendedCells main challenges) c.args.cells.now) c.in-Done.is in
+    let ends : EndsInPadding main = growing.window c.if-rows-height.true in
     let e = ends in
-    let k = rows (main) in
+    let k = rows main in
     let q = sym c.row-last.ensures in
-    let g = growing in record { cells_len = walk.words-length (main) (height) g (challenges) e (done) (words); canonical_cells = walk.words-canonical (main) (height) g (challenges) e (done) (words); ready_table = subst (ReadyTable (challenges)) q (walk.last-ready (main) (height) g (challenges) e (done)); first_nonzero = (g.some, omega (arith, c.rows_below-left.ensures, g.within, g.short)); divisible = subst (λ r. Divisible (fractions_of (challenges) (padding_row r k) (padding_row r k))) q (walk.padding-divisible (main) (height) g (challenges) e (done)) }
+    let g = growing in record { cells_len = walk.words-length main height g challenges e done words; canonical_cells = walk.words-canonical main height g challenges e done words; ready_table = subst (ReadyTable challenges) q (walk.last-ready main height g challenges e done); first_nonzero = (g.some, omega (arith, c.rows_below-left.ensures, g.within, g.short)); divisible = subst (λ r. Divisible (fractions_of challenges (padding_row r k) (padding_row r k))) q (walk.padding-divisible main height g challenges e done) }
 
 pub returns-in-Refused : goal.returns-in-Refused
 returns-in-Refused c =
@@ -43,28 +43,28 @@ returns-in-Refused c =
 
 pub returns-then-rows-height : goal.returns-then-rows-height
 returns-then-rows-height c =
-    let main : List ℕ = start.args.main.now in
-    let height : ℕ = start.args.height in
-    let challenges : List ℕ = start.args.challenges.now in
-    let growing : Growing main height = start.pre.0 in
-    let done : extendedAnswer main challenges ≡ Done = sym extended.extended-cells.ensures.0 ∙ c.in-Done.is in
-    let words : extended.extended-cells.last.1.1.0 ≡ extendedCells main challenges = extended.extended-cells.ensures.1 ∙ ap (λ a. on_done a (extendedCells main challenges) start.args.cells.now) c.in-Done.is in
-    let ends : EndsInPadding (main) = (growing).window c.if-rows-height.true in
+    let main : List ℕ = c.args.main.now in
+    let height : ℕ = c.args.height in
+    let challenges : List ℕ = c.args.challenges.now in
+    let growing : Growing main height = c.requires.growing in
+    let done : extendedAnswer main challenges ≡ Done = sym c.extended_cells-answer.ensures.answer ∙ c.in-Done.is in
+    let words : c.extended_cells-answer.new.cells ≡ extendedCells main challenges = c.extended_cells-answer.ensures.cells ∙ ap (λ a. on_done a (extendedCells main challenges) c.args.cells.now) c.in-Done.is in
+    let ends : EndsInPadding main = growing.window c.if-rows-height.true in
     let e = ends in
-    let k = rows (main) in
+    let k = rows main in
     let g = growing in record {
-      answer = sym (walk.same_answer (main) (height) g (challenges) e ∙ done);
+      answer = sym (walk.same_answer main height g challenges e ∙ done);
       cells = c.walk_padding.ensures
-          ∙ (λ i. aux_row (λ column. through column (challenges) (padding_row (c.row-last.ensures i)) k (c.rows_below-left.ensures i) (element_at c.extended_cells-answer.new.cells (place_of column * 3))))
-          ∙ walk.walked (main) (height) g (challenges) e (done) (words);
+          ∙ (λ i. aux_row (λ column. through column challenges (padding_row (c.row-last.ensures i)) k (c.rows_below-left.ensures i) (element_at c.extended_cells-answer.new.cells (place_of column * 3))))
+          ∙ walk.walked main height g challenges e done words;
     }
 
 pub returns-else-rows-height : goal.returns-else-rows-height
 returns-else-rows-height c =
-    let main : List ℕ = start.args.main.now in
-    let height : ℕ = start.args.height in
-    let challenges : List ℕ = start.args.challenges.now in
-    let growing : Growing main height = start.pre.0 in
-    let done : extendedAnswer main challenges ≡ Done = sym extended.extended-cells.ensures.0 ∙ c.in-Done.is in
-    let words : extended.extended-cells.last.1.1.0 ≡ extendedCells main challenges = extended.extended-cells.ensures.1 ∙ ap (λ a. on_done a (extendedCells main challenges) start.args.cells.now) c.in-Done.is in
-    let rest = walk.at_rest (main) (height) (growing) (challenges) c.if-rows-height.false in record { answer = sym (ap (λ t. extendedAnswer t (challenges)) rest ∙ done); cells = words ∙ sym (ap (λ t. extendedCells t (challenges)) rest) }
+    let main : List ℕ = c.args.main.now in
+    let height : ℕ = c.args.height in
+    let challenges : List ℕ = c.args.challenges.now in
+    let growing : Growing main height = c.requires.growing in
+    let done : extendedAnswer main challenges ≡ Done = sym c.extended_cells-answer.ensures.answer ∙ c.in-Done.is in
+    let words : c.extended_cells-answer.new.cells ≡ extendedCells main challenges = c.extended_cells-answer.ensures.cells ∙ ap (λ a. on_done a (extendedCells main challenges) c.args.cells.now) c.in-Done.is in
+    let rest = walk.at_rest main height growing challenges c.if-rows-height.false in record { answer = sym (ap (λ t. extendedAnswer t challenges) rest ∙ done); cells = words ∙ sym (ap (λ t. extendedCells t challenges) rest) }
