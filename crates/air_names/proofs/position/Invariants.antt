@@ -1,7 +1,6 @@
 -- The index stays within the list.
 use Prim.Native.Nat.{◌≤◌, ◌-◌}
 use lib.ListN.{length}
-use borrow.Author.Rules.{rules}
 use Rattle.air_names.proofs.position.Given as goal
 
 abbrev pub invariant-loop-i : goal.invariant-loop-i

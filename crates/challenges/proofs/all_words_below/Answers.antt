@@ -1,6 +1,4 @@
 -- The four tests in order.
-use borrow.Author.Rules.{rules}
-use borrow.Author.Tests.{not-true, not-false}
 use mathlib.Core.Path.{sym, ◌∙◌}
 use Rattle.challenges.proofs.all_words_below.Goals as goal
 

@@ -1,5 +1,4 @@
 -- The challenge is the element at its place.
-use borrow.Author.Rules.{rules}
 use Rattle.challenges.specs.Derived.{terminal}
 use Rattle.challenges.proofs.terminal.Goals as goal
 

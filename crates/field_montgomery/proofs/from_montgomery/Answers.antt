@@ -1,5 +1,5 @@
 -- The test, then the conversion.
-use Rattle.std.proofs.Common.{rules, le-ltb, lt-ltb}
+use Rattle.std.proofs.Common.{le-ltb, lt-ltb}
 use Rattle.field_montgomery.proofs.from_montgomery.Goals as goal
 
 pub returns-then-a-ge-P : goal.returns-then-a-ge-P

@@ -1,5 +1,5 @@
 -- The two tests in order.
-use Rattle.std.proofs.Common.{rules, le-ltb, lt-ltb, eq-eqb, ne_eqb}
+use Rattle.std.proofs.Common.{le-ltb, lt-ltb, eq-eqb, ne_eqb}
 use Rattle.field_montgomery.proofs.inverse.Goals as goal
 
 pub returns-then-a-ge-P : goal.returns-then-a-ge-P

@@ -1,5 +1,4 @@
 -- `decode` tests in the order of its definition; past both tests the row's words are there to be read.
-use borrow.Author.Rules.{rules}
 use borrow.Author.Tests.{eq-eqb, ne_eqb}
 use mathlib.Core.Path.{ap, ap₂, ◌∙◌}
 use Rattle.air.specs.MainColumn.{MAIN-WIDTH}

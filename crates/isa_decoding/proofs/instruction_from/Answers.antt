@@ -1,7 +1,6 @@
 -- `instruction_from`: a word above 88 is no opcode, and any other is the byte of its value.
 use mathlib.Core.Path.{sym, ◌∙◌}
 use native.Mathlib.Omega.{arith}
-use borrow.Author.Rules.{rules}
 use Rattle.isa_decoding.proofs.Bytes.{opcodes_are_bytes, bytes_decide}
 use Rattle.isa_decoding.proofs.Theorems.{unknown_opcodes}
 use Rattle.isa_decoding.proofs.instruction_from.Goals as goal

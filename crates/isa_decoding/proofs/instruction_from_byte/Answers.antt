@@ -1,6 +1,5 @@
 -- `instruction_from_byte` chooses by the candidate's class and its argument's test, which is what its kind decides.
 use mathlib.Core.Path.{◌≡◌}
-use borrow.Author.Rules.{rules}
 use borrow.Author.Tests.{ne_eqb}
 use Rattle.isa_decoding.specs.Byte.{kind_at, decided_on}
 use Rattle.isa_decoding.proofs.Bytes.{chosen, decides, test_below}

@@ -1,7 +1,5 @@
 -- At most one difference an entry.
-use borrow.Author.Rules.{rules}
-use mathlib.Core.Logic.{⊎_elim}
-use Prim.Native.Nat.{◌-◌, ◌≤◌}
+use Prim.Native.Nat.{◌-◌}
 use native.Mathlib.Omega.{arith}
 use Rattle.list_lookup_table.proofs.compare.Goals as goal
 use Rattle.list_lookup_table.proofs.compare.Goals.{then-there-here, else-there-here}

@@ -1,8 +1,5 @@
 -- At most one difference an entry.
-use borrow.Author.Rules.{rules}
-use mathlib.Core.Logic.{⊎_elim}
 use Prim.Native.Nat.{◌-◌, ◌≤◌}
-use native.Mathlib.Omega.{arith}
 use Rattle.list_lookup_table.proofs.compare.Given as goal
 
 abbrev pub invariant-loop-i : goal.invariant-loop-i

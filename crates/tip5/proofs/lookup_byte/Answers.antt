@@ -1,5 +1,4 @@
 -- The table is the list that the rule computes.
-use borrow.Author.Rules.{rules}
 use Rattle.tip5.proofs.Table.{byte_at}
 use Rattle.tip5.proofs.lookup_byte.Goals as goal
 

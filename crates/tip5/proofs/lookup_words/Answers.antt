@@ -1,11 +1,9 @@
 -- The first i words are the rule's bytes.
 use borrow.Author.Rules.{rules}
-use mathlib.Core.Path.{◌≡◌, refl, sym, ◌∙◌}
-use Prim.Native.Nat.{◌-◌, ◌≤◌}
+use mathlib.Core.Path.{refl, sym, ◌∙◌}
+use Prim.Native.Nat.{◌-◌}
 use native.Mathlib.Numerals.{add-one}
-use lib.ListN.{length, take}
 use lib.Seq.{take_all, take-suc-set}
-use Rattle.tip5.specs.LookupTable.{lookup_table}
 use Rattle.tip5.proofs.Table.{take_more, take_whole}
 use Rattle.tip5.proofs.lookup_words.Goals as goal
 

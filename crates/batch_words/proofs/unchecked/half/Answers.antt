@@ -1,5 +1,4 @@
 -- The definition, written out.
-use borrow.Author.Rules.{rules}
 use native.Mathlib.Omega.{arith}
 use Rattle.batch_words.specs.Words.{number}
 use Rattle.batch_words.proofs.unchecked.half.Goals as goal

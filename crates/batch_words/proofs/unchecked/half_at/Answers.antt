@@ -1,5 +1,4 @@
 -- Four bytes of the batch.
-use borrow.Author.Rules.{rules}
 use mathlib.Core.Path.{sym, ap, ◌∙◌}
 use Rattle.batch_words.specs.Words.{number}
 use Rattle.batch_words.proofs.Bytes.{four}

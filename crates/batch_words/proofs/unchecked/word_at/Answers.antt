@@ -1,5 +1,4 @@
 -- The low half, and 2^32 times the high one.
-use borrow.Author.Rules.{rules}
 use Rattle.batch_words.proofs.Bytes.{halves}
 use Rattle.batch_words.proofs.unchecked.word_at.Goals as goal
 

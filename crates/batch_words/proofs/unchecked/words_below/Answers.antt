@@ -1,9 +1,8 @@
 -- What is below p so far leaves the words from i on to decide.
 use borrow.Author.Rules.{rules}
 use mathlib.Core.Path.{◌≡◌, refl, sym, ◌∙◌}
-use Prim.Native.Nat.{◌-◌, ◌≤◌}
+use Prim.Native.Nat.{◌-◌}
 use lib.ListN.{drop, get_or}
-use Rattle.field_base.specs.Words.{all_below}
 use Rattle.field_base.proofs.Below.{fails_at, holds_at, holds_past}
 use Rattle.batch_words.specs.Words.{words}
 use Rattle.batch_words.proofs.Bytes.{length-words, within_words, word_of}

@@ -1,12 +1,9 @@
 -- What is below p so far leaves the words from i on to decide.
-use borrow.Author.Rules.{rules}
-use mathlib.Core.Path.{◌≡◌, refl, sym, ◌∙◌}
+use mathlib.Core.Path.{◌≡◌}
 use Prim.Native.Nat.{◌-◌, ◌≤◌}
-use lib.ListN.{drop, get_or}
+use lib.ListN.{drop}
 use Rattle.field_base.specs.Words.{all_below}
-use Rattle.field_base.proofs.Below.{fails_at, holds_at, holds_past}
 use Rattle.batch_words.specs.Words.{words}
-use Rattle.batch_words.proofs.Bytes.{length-words, within_words, word_of}
 use Rattle.batch_words.proofs.unchecked.words_below.Given as goal
 
 abbrev pub invariant-loop-i : goal.invariant-loop-i

@@ -1,9 +1,9 @@
 -- The bytes of the first i words are in the batch, which is as it was elsewhere.
 use borrow.Author.Rules.{rules}
 use mathlib.Core.Path.{◌≡◌, refl, sym, ap₂, ◌∙◌}
-use Prim.Native.Nat.{◌+◌, ◌-◌, ◌*◌, ◌≤◌}
+use Prim.Native.Nat.{◌+◌, ◌-◌, ◌*◌}
 use native.Mathlib.Omega.{arith}
-use lib.ListN.{length, take, get_or}
+use lib.ListN.{get_or}
 use lib.Seq.{take_all}
 use Rattle.field_montgomery.specs.Form.{in_form}
 use Rattle.field_montgomery.proofs.Many.{in_form_at, length-in_form}

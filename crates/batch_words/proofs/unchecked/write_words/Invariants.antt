@@ -1,16 +1,10 @@
 -- The bytes of the first i words are in the batch, which is as it was elsewhere.
-use borrow.Author.Rules.{rules}
-use mathlib.Core.Path.{◌≡◌, refl, sym, ap₂, ◌∙◌}
-use Prim.Native.Nat.{◌+◌, ◌-◌, ◌*◌, ◌≤◌}
-use native.Mathlib.Omega.{arith}
-use lib.ListN.{length, take, get_or}
-use lib.Seq.{take_all}
+use mathlib.Core.Path.{◌≡◌}
+use Prim.Native.Nat.{◌-◌, ◌≤◌}
+use lib.ListN.{length, take}
 use Rattle.field_montgomery.specs.Form.{in_form}
-use Rattle.field_montgomery.proofs.Many.{in_form_at, length-in_form}
-use Rattle.batch_words.specs.Words.{little_endian, bytes_of}
+use Rattle.batch_words.specs.Words.{bytes_of}
 use Rattle.batch_words.specs.Pasted.{pasted}
-use Rattle.batch_words.proofs.Writing.{word_on}
-use Rattle.batch_words.proofs.Pasting.{pasted_none}
 use Rattle.batch_words.proofs.unchecked.write_words.Given as goal
 
 abbrev pub invariant-loop-i : goal.invariant-loop-i

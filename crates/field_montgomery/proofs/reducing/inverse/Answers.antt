@@ -1,5 +1,5 @@
 -- The constant is 2^128 modulo p.
-use Rattle.std.proofs.Common.{ℕ, ◌*◌, ap, ◌∙◌, rules}
+use Rattle.std.proofs.Common.{ℕ, ◌*◌, ap, ◌∙◌}
 use Rattle.algebra.specs.Modulus.{p, times, inverse}
 use Rattle.algebra.proofs.Residues.{mul-mod_mod}
 use Rattle.field_montgomery.specs.Form.{RADIX, montgomery_inverse}

@@ -1,5 +1,5 @@
 -- The constant is 2^64 modulo p.
-use Rattle.std.proofs.Common.{◌∙◌, rules}
+use Rattle.std.proofs.Common.{◌∙◌}
 use Rattle.algebra.specs.Modulus.{p}
 use Rattle.algebra.proofs.Residues.{mul-mod_mod}
 use Rattle.field_montgomery.specs.Form.{RADIX, to_montgomery}

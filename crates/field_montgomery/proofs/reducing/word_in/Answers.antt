@@ -1,5 +1,4 @@
 -- An arm for each form.
-use Rattle.std.proofs.Common.{rules}
 use Rattle.field_montgomery.proofs.reducing.word_in.Goals as goal
 
 pub returns-in-Montgomery : goal.returns-in-Montgomery

@@ -1,11 +1,11 @@
 -- The words read so far are the third's first; then they are pasted one by one.
 use borrow.Author.Rules.{rules}
-use mathlib.Core.Path.{◌≡◌, refl, ◌∙◌}
-use Prim.Native.Nat.{◌-◌, ◌≤◌, ◌<◌}
+use mathlib.Core.Path.{◌≡◌, refl}
+use Prim.Native.Nat.{◌-◌, ◌<◌}
 use native.Mathlib.Numerals.{add-one}
 use native.Mathlib.Omega.{arith}
-use lib.ListN.{length, take, drop, length-drop}
-use lib.Seq.{take-suc-set, take-suc, get_or-drop, paste, paste-zero, paste-suc}
+use lib.ListN.{length, drop, length-drop}
+use lib.Seq.{take-suc-set, take-suc, get_or-drop, paste-zero, paste-suc}
 use Rattle.table_rows.proofs.unchecked.copy_third.Goals as goal
 
 pub loop-i-preserved : goal.loop-i-preserved

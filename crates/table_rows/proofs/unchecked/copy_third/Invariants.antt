@@ -1,11 +1,8 @@
 -- The words read so far are the third's first; then they are pasted one by one.
-use borrow.Author.Rules.{rules}
-use mathlib.Core.Path.{◌≡◌, refl, ◌∙◌}
-use Prim.Native.Nat.{◌-◌, ◌≤◌, ◌<◌}
-use native.Mathlib.Numerals.{add-one}
-use native.Mathlib.Omega.{arith}
-use lib.ListN.{length, take, drop, length-drop}
-use lib.Seq.{take-suc-set, take-suc, get_or-drop, paste, paste-zero, paste-suc}
+use mathlib.Core.Path.{◌≡◌}
+use Prim.Native.Nat.{◌-◌, ◌≤◌}
+use lib.ListN.{length, take, drop}
+use lib.Seq.{paste}
 use Rattle.table_rows.proofs.unchecked.copy_third.Given as goal
 
 abbrev pub invariant-loop-i : goal.invariant-loop-i

@@ -1,11 +1,10 @@
 -- The row pasted word by word.
 use borrow.Author.Rules.{rules}
 use mathlib.Core.Path.{◌≡◌, refl}
-use Prim.Native.Nat.{suc, ◌+◌, ◌-◌, ◌*◌, ◌≤◌}
+use Prim.Native.Nat.{suc, ◌+◌, ◌-◌, ◌*◌}
 use native.Mathlib.Numerals.{add-one}
 use native.Mathlib.Omega.{arith}
-use lib.ListN.{length}
-use lib.Seq.{paste, paste-zero, paste-suc, take_all}
+use lib.Seq.{paste-zero, paste-suc, take_all}
 use Rattle.table_rows.proofs.unchecked.put_row.Goals as goal
 
 pub loop-i-init : goal.loop-i-init

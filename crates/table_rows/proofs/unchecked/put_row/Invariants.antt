@@ -1,11 +1,8 @@
 -- The row pasted word by word.
-use borrow.Author.Rules.{rules}
-use mathlib.Core.Path.{◌≡◌, refl}
-use Prim.Native.Nat.{suc, ◌+◌, ◌-◌, ◌*◌, ◌≤◌}
-use native.Mathlib.Numerals.{add-one}
-use native.Mathlib.Omega.{arith}
+use mathlib.Core.Path.{◌≡◌}
+use Prim.Native.Nat.{◌-◌, ◌≤◌}
 use lib.ListN.{length}
-use lib.Seq.{paste, paste-zero, paste-suc, take_all}
+use lib.Seq.{paste}
 use Rattle.table_rows.proofs.unchecked.put_row.Given as goal
 
 abbrev pub invariant-loop-i : goal.invariant-loop-i

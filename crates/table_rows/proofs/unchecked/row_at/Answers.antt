@@ -1,5 +1,4 @@
 -- 39 words from the row's first on.
-use borrow.Author.Rules.{rules}
 use Rattle.table_rows.proofs.Rows.{row_part}
 use Rattle.table_rows.proofs.unchecked.row_at.Goals as goal
 
