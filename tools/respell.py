@@ -15,13 +15,14 @@ import re
 import sys
 
 TOKEN = re.compile(r"[^\s(){}\[\].,;:@\"|]+")
-HEAD = re.compile(r"^((?:abbrev |unfoldable |pub )*)([^\s(){}:.,;]+)((?: [({][^)}]*[)}])*) : (.*)$")
-BLOCK = re.compile(r"^(?:pub )?(?:abbrev |unfoldable )?(?:pub )?(record|data) (\S+).* where$")
+HEAD = re.compile(r"^(?:  |    )?((?:abbrev |unfoldable |pub )*)([^\s(){}:.,;]+)((?: [({][^)}]*[)}])*) : (.*)$")
+BLOCK = re.compile(r"^( *)(?:pub )?(?:abbrev |unfoldable )?(?:pub )?(record|data) (\S+).* where$")
 USE = re.compile(r"^use ([^\s{]+)\.\{(.*)\}$")
-FIELD = re.compile(r"^  (?:pub )?([^\s(){}:]+(?: [^\s(){}:]+)*) :")
+FIELD = re.compile(r"^ +(?:pub )?([^\s(){}:]+(?: [^\s(){}:]+)*) :")
 # the functions that lemmas here begin with
-HEADS = "length take drop map reverse append sum product count mul add sub pow mod el into normOf bytesOf littleEndian".split()
+HEADS = "length take drop map reverse append sum product count mul add sub pow mod el into normOf norm_of bytesOf bytes_of littleEndian little_endian".split()
 PLAIN = "comm assoc refl sym same other one zero is by at spec".split()
+WORDS = "let in λ use open module | [ ] =".split()
 # the logic's and the tool's names, which files here repeat
 KEPT = set("returns start statement".split())
 
@@ -47,7 +48,7 @@ def names(root):
     found, fields, others = set(), set(), set()
     own = os.listdir(os.path.join(root, "crates"))
     for path in files(root, ".antt"):
-        block = None
+        block, inside = None, 1
         for line in open(path, encoding="utf-8"):
             line = line.rstrip("\n")
             it = USE.match(line)
@@ -55,9 +56,10 @@ def names(root):
                 others.update(re.split(r"[,\s]+", re.sub(r"\S+ as ", "", it[2]).strip()))
             it = BLOCK.match(line)
             if it:
-                block = it[1]
+                block = it[2]
+                inside = len(it[1]) + 1
                 continue
-            if not line.startswith(" "):
+            if len(line) - len(line.lstrip()) < inside:
                 block = None
             if block:
                 it = FIELD.match(line)
@@ -67,7 +69,7 @@ def names(root):
                         fields.add(name)
                 continue
             it = HEAD.match(line)
-            if it and not (of_function(path) and (it[4].startswith(("tie.", "{M : Type 1}")))):
+            if it and it[2] not in WORDS and not (of_function(path) and (it[4].startswith(("tie.", "goal.", "{M : Type 1}")))):
                 found.add(it[2])
     return found - others, fields
 
