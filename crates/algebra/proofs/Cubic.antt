@@ -4,7 +4,7 @@ use mathlib.Core.List.{List, [], ◌∷◌}
 use lib.ListN.{length}
 use Rattle.algebra.specs.Ring.{CommRing}
 use Rattle.algebra.specs.Element.{Triple}
-use Rattle.algebra.proofs.RingLaws.{mul-zero}
+use Rattle.algebra.proofs.RingLaws.{mul_zero}
 use Rattle.algebra.proofs.Solver.{Expr, nil, one, ◌⊕◌, ◌⊗◌, ⊖◌, Equal, ev, solve, v0, v1, v2, v3, v4, v5, v6, v7, v8}
 
 pub triple_path : {A : Type 0} {a b : Triple A} → a.x0 ≡ b.x0 → a.x1 ≡ b.x1 → a.x2 ≡ b.x2 → a ≡ b
@@ -73,8 +73,8 @@ module _ (O : Ops) where
   abbrev pub value_at : A → Triple A → A
   value_at x a = add a.x0 (mul x (add a.x1 (mul x a.x2)))
 
-  abbrev pub cubicAt : A → A
-  cubicAt x = add (add (mul x (mul x x)) (neg x)) i
+  abbrev pub cubic_at : A → A
+  cubic_at x = add (add (mul x (mul x x)) (neg x)) i
 
 abbrev va : Triple Expr
 va = record { x0 = v0; x1 = v1; x2 = v2 }
@@ -109,14 +109,14 @@ module _ (R : CommRing) where
   abbrev of3 : Triple C → Triple C → Triple C → List C
   of3 a b c = a.x0 ∷ a.x1 ∷ a.x2 ∷ of2 b c
 
-  pub mul3-assoc : (a b c : Triple C) → mul3 (ops R) (mul3 (ops R) a b) c ≡ mul3 (ops R) a (mul3 (ops R) b c)
-  mul3-assoc a b c = solve3 (of3 a b c) (mul3 exprs (mul3 exprs va vb) vc) (mul3 exprs va (mul3 exprs vb vc)) (tt, tt, tt)
+  pub mul3_assoc : (a b c : Triple C) → mul3 (ops R) (mul3 (ops R) a b) c ≡ mul3 (ops R) a (mul3 (ops R) b c)
+  mul3_assoc a b c = solve3 (of3 a b c) (mul3 exprs (mul3 exprs va vb) vc) (mul3 exprs va (mul3 exprs vb vc)) (tt, tt, tt)
 
-  pub mul3-comm : (a b : Triple C) → mul3 (ops R) a b ≡ mul3 (ops R) b a
-  mul3-comm a b = solve3 (of2 a b) (mul3 exprs va vb) (mul3 exprs vb va) (tt, tt, tt)
+  pub mul3_comm : (a b : Triple C) → mul3 (ops R) a b ≡ mul3 (ops R) b a
+  mul3_comm a b = solve3 (of2 a b) (mul3 exprs va vb) (mul3 exprs vb va) (tt, tt, tt)
 
-  pub mul3-one : (a : Triple C) → mul3 (ops R) a (constant (ops R) i) ≡ a
-  mul3-one a = solve3 (of1 a) (mul3 exprs va (constant exprs one)) va (tt, tt, tt)
+  pub mul3_one : (a : Triple C) → mul3 (ops R) a (constant (ops R) i) ≡ a
+  mul3_one a = solve3 (of1 a) (mul3 exprs va (constant exprs one)) va (tt, tt, tt)
 
   pub distrib3 : (a b c : Triple C) → mul3 (ops R) a (add3 (ops R) b c) ≡ add3 (ops R) (mul3 (ops R) a b) (mul3 (ops R) a c)
   distrib3 a b c = solve3 (of3 a b c) (mul3 exprs va (add3 exprs vb vc)) (add3 exprs (mul3 exprs va vb) (mul3 exprs va vc)) (tt, tt, tt)
@@ -134,9 +134,9 @@ module _ (R : CommRing) where
         add_comm = λ a b. triple_path (R.add_comm a.x0 b.x0) (R.add_comm a.x1 b.x1) (R.add_comm a.x2 b.x2);
         add-zero = λ a. triple_path (R.add-zero a.x0) (R.add-zero a.x1) (R.add-zero a.x2);
         add-neg = λ a. triple_path (R.add-neg a.x0) (R.add-neg a.x1) (R.add-neg a.x2);
-        mul_assoc = mul3-assoc;
-        mul_comm = mul3-comm;
-        mul-one = mul3-one;
+        mul_assoc = mul3_assoc;
+        mul_comm = mul3_comm;
+        mul-one = mul3_one;
         distrib = distrib3;
       }
 
@@ -144,17 +144,17 @@ module _ (R : CommRing) where
   pub mul-cofactor : (a : Triple C) → mul3 (ops R) a (cofactor3 (ops R) a) ≡ constant (ops R) (norm3 (ops R) a)
   mul-cofactor a = solve3 (of1 a) (mul3 exprs va (cofactor3 exprs va)) (constant exprs (norm3 exprs va)) (tt, tt, tt)
 
-  pub norm-mul : (a b : Triple C) → norm3 (ops R) (mul3 (ops R) a b) ≡ mul (norm3 (ops R) a) (norm3 (ops R) b)
-  norm-mul a b = solve R (of2 a b) (norm3 exprs (mul3 exprs va vb)) (norm3 exprs va ⊗ norm3 exprs vb) tt
+  pub norm_mul : (a b : Triple C) → norm3 (ops R) (mul3 (ops R) a b) ≡ mul (norm3 (ops R) a) (norm3 (ops R) b)
+  norm_mul a b = solve R (of2 a b) (norm3 exprs (mul3 exprs va vb)) (norm3 exprs va ⊗ norm3 exprs vb) tt
 
   -- at a root, to take the value is to multiply
-  pub valueAt-mul : (x : C) → cubicAt (ops R) x ≡ o → (a b : Triple C)
+  pub value_at_mul : (x : C) → cubic_at (ops R) x ≡ o → (a b : Triple C)
       → value_at (ops R) x (mul3 (ops R) a b) ≡ mul (value_at (ops R) x a) (value_at (ops R) x b)
-  valueAt-mul x root a b =
+  value_at_mul x root a b =
       sym (R.add-zero (value_at (ops R) x (mul3 (ops R) a b)))
-      ∙ ap (add (value_at (ops R) x (mul3 (ops R) a b))) (sym (ap (mul quotient) root ∙ mul-zero R quotient))
+      ∙ ap (add (value_at (ops R) x (mul3 (ops R) a b))) (sym (ap (mul quotient) root ∙ mul_zero R quotient))
       ∙ solve R (a.x0 ∷ a.x1 ∷ a.x2 ∷ b.x0 ∷ b.x1 ∷ b.x2 ∷ x ∷ [])
-      (value_at exprs v6 (mul3 exprs va vb) ⊕ ((v1 ⊗ v5 ⊕ v2 ⊗ v4) ⊕ v6 ⊗ (v2 ⊗ v5)) ⊗ cubicAt exprs v6)
+      (value_at exprs v6 (mul3 exprs va vb) ⊕ ((v1 ⊗ v5 ⊕ v2 ⊗ v4) ⊕ v6 ⊗ (v2 ⊗ v5)) ⊗ cubic_at exprs v6)
       (value_at exprs v6 va ⊗ value_at exprs v6 vb) tt
     where
       quotient : C

@@ -23,10 +23,10 @@ module _ (R : CommRing) where
   pow x zero = i
   pow x (suc n) = mul x (pow x n)
 
-  pub one-pow : (n : ℕ) → pow i n ≡ i
+  pub one_pow : (n : ℕ) → pow i n ≡ i
   unfolding pow
-  one-pow zero = refl
-  one-pow (suc n) = one-mul R (pow i n) ∙ one-pow n
+  one_pow zero = refl
+  one_pow (suc n) = one-mul R (pow i n) ∙ one_pow n
 
   pub pow-add : (x : C) (m n : ℕ) → pow x (m + n) ≡ mul (pow x m) (pow x n)
   unfolding pow
@@ -40,8 +40,8 @@ module _ (R : CommRing) where
       ap (mul (mul x y)) (mul-pow x y n)
       ∙ solve R (x ∷ y ∷ pow x n ∷ pow y n ∷ []) ((v0 ⊗ v1) ⊗ (v2 ⊗ v3)) ((v0 ⊗ v2) ⊗ (v1 ⊗ v3)) tt
 
-  pub square-pow : (x : C) (n : ℕ) → pow (mul x x) n ≡ pow x (n + n)
-  square-pow x n = mul-pow x x n ∙ sym (pow-add x n n)
+  pub square_pow : (x : C) (n : ℕ) → pow (mul x x) n ≡ pow x (n + n)
+  square_pow x n = mul-pow x x n ∙ sym (pow-add x n n)
 
   -- along a map that keeps products
   module _ {A : Type 0} (m : A → A → A) (e : A) (f : A → C) (one : f e ≡ i) (product : (a b : A) → f (m a b) ≡ mul (f a) (f b)) where
@@ -51,12 +51,12 @@ module _ (R : CommRing) where
     digit (suc zero) a h = sym (mul-one (f a))
     digit (suc (suc r)) a h = absurd (omega arith)
 
-    pub squaring-pow : (k : ℕ) (a : A) (n : ℕ) → n < 2 ^ k → f (squaring m e k a n) ≡ pow (f a) n
+    pub squaring_pow : (k : ℕ) (a : A) (n : ℕ) → n < 2 ^ k → f (squaring m e k a n) ≡ pow (f a) n
     unfolding squaring pow
-    squaring-pow zero a n h = one ∙ ap (pow (f a)) {x = 0} {y = n} (omega arith)
-    squaring-pow (suc k) a n h =
+    squaring_pow zero a n h = one ∙ ap (pow (f a)) {x = 0} {y = n} (omega arith)
+    squaring_pow (suc k) a n h =
         product (squaring m e k (m a a) (n / 2)) (elim (n % 2) [ zero ↦ e | suc r ↦ a ])
         ∙ ap₂ mul
-        (squaring-pow k (m a a) (n / 2) (omega (arith, number.two-pow-succ k)) ∙ ap (λ x. pow x (n / 2)) (product a a) ∙ square-pow (f a) (n / 2))
+        (squaring_pow k (m a a) (n / 2) (omega (arith, number.two-pow-succ k)) ∙ ap (λ x. pow x (n / 2)) (product a a) ∙ square_pow (f a) (n / 2))
         (digit (n % 2) a (omega arith))
         ∙ sym (pow-add (f a) (n / 2 + n / 2) (n % 2)) ∙ ap (pow (f a)) (halves n)

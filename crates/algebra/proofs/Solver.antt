@@ -6,7 +6,7 @@ use Prim.Native.Nat.{ℕ, zero, suc, ◌+◌, ◌*◌}
 use lib.Dec.{T, eqb, eqb→eq}
 use lib.ListN.{length}
 use Rattle.algebra.specs.Ring.{CommRing}
-use Rattle.algebra.proofs.RingLaws.{zero-add, distrib_right, add-swap, mul_left_comm, mul-zero, zero-mul, neg-add, neg-neg, neg-zero, mul-neg, neg-mul, eq-of-sub, nat, nat-add, nat-mul, nat-one}
+use Rattle.algebra.proofs.RingLaws.{zero-add, distrib_right, add-swap, mul_left_comm, mul_zero, zero-mul, neg_add, neg_neg, neg_zero, mul-neg, neg_mul, eq_of_sub, nat, nat_add, nat_mul, nat_one}
 
 pub data Expr : Type 0 where
   var : ℕ → Expr
@@ -69,23 +69,23 @@ abbrev pub null_c : Coef → Bool
 null_c (diff a b) = eqb a b
 
 module _ {A : Type 0} where
-  abbrev pub addL : (A → A → A) → List A → List A → List A
-  addL f [] m = m
-  addL f (x ∷ l) [] = x ∷ l
-  addL f (x ∷ l) (y ∷ m) = f x y ∷ addL f l m
+  abbrev pub add_l : (A → A → A) → List A → List A → List A
+  add_l f [] m = m
+  add_l f (x ∷ l) [] = x ∷ l
+  add_l f (x ∷ l) (y ∷ m) = f x y ∷ add_l f l m
 
-  abbrev pub mapL : (A → A) → List A → List A
-  mapL f [] = []
-  mapL f (x ∷ l) = f x ∷ mapL f l
+  abbrev pub map_l : (A → A) → List A → List A
+  map_l f [] = []
+  map_l f (x ∷ l) = f x ∷ map_l f l
 
   -- times the variable
   abbrev pub shift : A → List A → List A
   shift z [] = []
   shift z (x ∷ l) = z ∷ x ∷ l
 
-  abbrev pub mulL : A → (A → A → A) → (A → A → A) → List A → List A → List A
-  mulL z f g [] m = []
-  mulL z f g (x ∷ l) m = addL f (mapL (g x) m) (shift z (mulL z f g l m))
+  abbrev pub mul_l : A → (A → A → A) → (A → A → A) → List A → List A → List A
+  mul_l z f g [] m = []
+  mul_l z f g (x ∷ l) m = add_l f (map_l (g x) m) (shift z (mul_l z f g l m))
 
   abbrev pub all_l : (A → Bool) → List A → Bool
   all_l t [] = true
@@ -106,15 +106,15 @@ var_p (suc n) (suc j) = var_p n j ∷ []
 
 abbrev pub add_p : (n : ℕ) → Poly n → Poly n → Poly n
 add_p zero p q = add_c p q
-add_p (suc n) p q = addL (add_p n) p q
+add_p (suc n) p q = add_l (add_p n) p q
 
 abbrev pub neg_p : (n : ℕ) → Poly n → Poly n
 neg_p zero p = neg_c p
-neg_p (suc n) p = mapL (neg_p n) p
+neg_p (suc n) p = map_l (neg_p n) p
 
 abbrev pub mul_p : (n : ℕ) → Poly n → Poly n → Poly n
 mul_p zero p q = mul_c p q
-mul_p (suc n) p q = mulL (zero_p n) (add_p n) (mul_p n) p q
+mul_p (suc n) p q = mul_l (zero_p n) (add_p n) (mul_p n) p q
 
 abbrev pub null_p : (n : ℕ) → Poly n → Bool
 null_p zero p = null_c p
@@ -158,26 +158,26 @@ module _ (R : CommRing) where
   ev ρ (a ⊗ b) = mul (ev ρ a) (ev ρ b)
   ev ρ (⊖ a) = neg (ev ρ a)
 
-  evC : Coef → C
-  evC (diff a b) = add (nat R a) (neg (nat R b))
+  ev_c : Coef → C
+  ev_c (diff a b) = add (nat R a) (neg (nat R b))
 
   horner : {A : Type 0} → C → (A → C) → List A → C
   horner x f [] = o
   horner x f (a ∷ l) = add (f a) (mul x (horner x f l))
 
-  evP : (ρ : List C) → Poly (length ρ) → C
-  unfolding evC horner
-  evP [] p = evC p
-  evP (x ∷ ρ) p = horner x (evP ρ) p
+  ev_p : (ρ : List C) → Poly (length ρ) → C
+  unfolding ev_c horner
+  ev_p [] p = ev_c p
+  ev_p (x ∷ ρ) p = horner x (ev_p ρ) p
 
   -- the coefficients
   sub-sub : (a b c d : C) → add (add a c) (neg (add b d)) ≡ add (add a (neg b)) (add c (neg d))
-  sub-sub a b c d = ap (add (add a c)) (neg-add R b d) ∙ add-swap R a c (neg b) (neg d)
+  sub-sub a b c d = ap (add (add a c)) (neg_add R b d) ∙ add-swap R a c (neg b) (neg d)
 
-  addC-sound : (p q : Coef) → evC (add_c p q) ≡ add (evC p) (evC q)
-  unfolding evC
-  addC-sound (diff a b) (diff c d) =
-      ap₂ (λ x y. add x (neg y)) (nat-add R a c) (nat-add R b d) ∙ sub-sub (nat R a) (nat R b) (nat R c) (nat R d)
+  add_c_sound : (p q : Coef) → ev_c (add_c p q) ≡ add (ev_c p) (ev_c q)
+  unfolding ev_c
+  add_c_sound (diff a b) (diff c d) =
+      ap₂ (λ x y. add x (neg y)) (nat_add R a c) (nat_add R b d) ∙ sub-sub (nat R a) (nat R b) (nat R c) (nat R d)
 
   mul-diff : (a b c d : C) → add (add (mul a c) (mul b d)) (neg (add (mul a d) (mul b c))) ≡ mul (add a (neg b)) (add c (neg d))
   mul-diff a b c d =
@@ -185,128 +185,128 @@ module _ (R : CommRing) where
       ∙ ap₂ add
       (ap (add (mul a c)) (sym (mul-neg R a d)) ∙ sym (distrib a c (neg d)))
       (add_comm (mul b d) (neg (mul b c))
-      ∙ ap₂ add (sym (neg-mul R b c)) (sym (neg-neg R (mul b d)) ∙ ap neg (sym (neg-mul R b d)) ∙ sym (mul-neg R (neg b) d))
+      ∙ ap₂ add (sym (neg_mul R b c)) (sym (neg_neg R (mul b d)) ∙ ap neg (sym (neg_mul R b d)) ∙ sym (mul-neg R (neg b) d))
       ∙ sym (distrib (neg b) c (neg d)))
       ∙ sym (distrib_right R a (neg b) (add c (neg d)))
 
-  mulC-sound : (p q : Coef) → evC (mul_c p q) ≡ mul (evC p) (evC q)
-  unfolding evC
-  mulC-sound (diff a b) (diff c d) =
+  mul_c_sound : (p q : Coef) → ev_c (mul_c p q) ≡ mul (ev_c p) (ev_c q)
+  unfolding ev_c
+  mul_c_sound (diff a b) (diff c d) =
       ap₂ (λ x y. add x (neg y))
-      (nat-add R (a * c) (b * d) ∙ ap₂ add (nat-mul R a c) (nat-mul R b d))
-      (nat-add R (a * d) (b * c) ∙ ap₂ add (nat-mul R a d) (nat-mul R b c))
+      (nat_add R (a * c) (b * d) ∙ ap₂ add (nat_mul R a c) (nat_mul R b d))
+      (nat_add R (a * d) (b * c) ∙ ap₂ add (nat_mul R a d) (nat_mul R b c))
       ∙ mul-diff (nat R a) (nat R b) (nat R c) (nat R d)
 
-  negC-sound : (p : Coef) → evC (neg_c p) ≡ neg (evC p)
-  unfolding evC
-  negC-sound (diff a b) =
-      add_comm (nat R b) (neg (nat R a)) ∙ ap (add (neg (nat R a))) (sym (neg-neg R (nat R b))) ∙ sym (neg-add R (nat R a) (neg (nat R b)))
+  neg_c_sound : (p : Coef) → ev_c (neg_c p) ≡ neg (ev_c p)
+  unfolding ev_c
+  neg_c_sound (diff a b) =
+      add_comm (nat R b) (neg (nat R a)) ∙ ap (add (neg (nat R a))) (sym (neg_neg R (nat R b))) ∙ sym (neg_add R (nat R a) (neg (nat R b)))
 
-  nullC-sound : (p : Coef) → T (null_c p) → evC p ≡ o
-  unfolding evC
-  nullC-sound (diff a b) t = ap (λ x. add (nat R x) (neg (nat R b))) (eqb→eq a b t) ∙ add-neg (nat R b)
+  null_c_sound : (p : Coef) → T (null_c p) → ev_c p ≡ o
+  unfolding ev_c
+  null_c_sound (diff a b) t = ap (λ x. add (nat R x) (neg (nat R b))) (eqb→eq a b t) ∙ add-neg (nat R b)
 
-  litC-sound : (k : ℕ) → evC (diff k 0) ≡ nat R k
-  unfolding evC nat
-  litC-sound k = ap (add (nat R k)) (neg-zero R) ∙ add-zero (nat R k)
+  lit_c_sound : (k : ℕ) → ev_c (diff k 0) ≡ nat R k
+  unfolding ev_c nat
+  lit_c_sound k = ap (add (nat R k)) (neg_zero R) ∙ add-zero (nat R k)
 
   -- the lists
   module _ {A : Type 0} (x : C) (f : A → C) where
-    addL-sound : (g : A → A → A) → ((a b : A) → f (g a b) ≡ add (f a) (f b))
-        → (l m : List A) → horner x f (addL g l m) ≡ add (horner x f l) (horner x f m)
+    add_l_sound : (g : A → A → A) → ((a b : A) → f (g a b) ≡ add (f a) (f b))
+        → (l m : List A) → horner x f (add_l g l m) ≡ add (horner x f l) (horner x f m)
     unfolding horner
-    addL-sound g h [] m = sym (zero-add R (horner x f m))
-    addL-sound g h (a ∷ l) [] = sym (add-zero (horner x f (a ∷ l)))
-    addL-sound g h (a ∷ l) (b ∷ m) =
-        ap₂ add (h a b) (ap (mul x) (addL-sound g h l m) ∙ distrib x (horner x f l) (horner x f m))
+    add_l_sound g h [] m = sym (zero-add R (horner x f m))
+    add_l_sound g h (a ∷ l) [] = sym (add-zero (horner x f (a ∷ l)))
+    add_l_sound g h (a ∷ l) (b ∷ m) =
+        ap₂ add (h a b) (ap (mul x) (add_l_sound g h l m) ∙ distrib x (horner x f l) (horner x f m))
         ∙ add-swap R (f a) (f b) (mul x (horner x f l)) (mul x (horner x f m))
 
-    mapL-sound : (g : A → A) (k : C) → ((a : A) → f (g a) ≡ mul k (f a))
-        → (l : List A) → horner x f (mapL g l) ≡ mul k (horner x f l)
+    map_l_sound : (g : A → A) (k : C) → ((a : A) → f (g a) ≡ mul k (f a))
+        → (l : List A) → horner x f (map_l g l) ≡ mul k (horner x f l)
     unfolding horner
-    mapL-sound g k h [] = sym (mul-zero R k)
-    mapL-sound g k h (a ∷ l) =
-        ap₂ add (h a) (ap (mul x) (mapL-sound g k h l) ∙ mul_left_comm R x k (horner x f l))
+    map_l_sound g k h [] = sym (mul_zero R k)
+    map_l_sound g k h (a ∷ l) =
+        ap₂ add (h a) (ap (mul x) (map_l_sound g k h l) ∙ mul_left_comm R x k (horner x f l))
         ∙ sym (distrib k (f a) (mul x (horner x f l)))
 
-    negL-sound : (g : A → A) → ((a : A) → f (g a) ≡ neg (f a))
-        → (l : List A) → horner x f (mapL g l) ≡ neg (horner x f l)
+    neg_l_sound : (g : A → A) → ((a : A) → f (g a) ≡ neg (f a))
+        → (l : List A) → horner x f (map_l g l) ≡ neg (horner x f l)
     unfolding horner
-    negL-sound g h [] = sym (neg-zero R)
-    negL-sound g h (a ∷ l) =
-        ap₂ add (h a) (ap (mul x) (negL-sound g h l) ∙ mul-neg R x (horner x f l))
-        ∙ sym (neg-add R (f a) (mul x (horner x f l)))
+    neg_l_sound g h [] = sym (neg_zero R)
+    neg_l_sound g h (a ∷ l) =
+        ap₂ add (h a) (ap (mul x) (neg_l_sound g h l) ∙ mul-neg R x (horner x f l))
+        ∙ sym (neg_add R (f a) (mul x (horner x f l)))
 
-    shift-sound : (z : A) → f z ≡ o → (l : List A) → horner x f (shift z l) ≡ mul x (horner x f l)
+    shift_sound : (z : A) → f z ≡ o → (l : List A) → horner x f (shift z l) ≡ mul x (horner x f l)
     unfolding horner
-    shift-sound z h [] = sym (mul-zero R x)
-    shift-sound z h (a ∷ l) = ap (λ y. add y (mul x (horner x f (a ∷ l)))) h ∙ zero-add R (mul x (horner x f (a ∷ l)))
+    shift_sound z h [] = sym (mul_zero R x)
+    shift_sound z h (a ∷ l) = ap (λ y. add y (mul x (horner x f (a ∷ l)))) h ∙ zero-add R (mul x (horner x f (a ∷ l)))
 
-    mulL-sound : (z : A) (g k : A → A → A) → f z ≡ o → ((a b : A) → f (g a b) ≡ add (f a) (f b)) → ((a b : A) → f (k a b) ≡ mul (f a) (f b))
-        → (l m : List A) → horner x f (mulL z g k l m) ≡ mul (horner x f l) (horner x f m)
+    mul_l_sound : (z : A) (g k : A → A → A) → f z ≡ o → ((a b : A) → f (g a b) ≡ add (f a) (f b)) → ((a b : A) → f (k a b) ≡ mul (f a) (f b))
+        → (l m : List A) → horner x f (mul_l z g k l m) ≡ mul (horner x f l) (horner x f m)
     unfolding horner
-    mulL-sound z g k hz hg hk [] m = sym (zero-mul R (horner x f m))
-    mulL-sound z g k hz hg hk (a ∷ l) m =
-        addL-sound g hg (mapL (k a) m) (shift z (mulL z g k l m))
-        ∙ ap₂ add (mapL-sound (k a) (f a) (hk a) m)
-        (shift-sound z hz (mulL z g k l m) ∙ ap (mul x) (mulL-sound z g k hz hg hk l m) ∙ sym (mul_assoc x (horner x f l) (horner x f m)))
+    mul_l_sound z g k hz hg hk [] m = sym (zero-mul R (horner x f m))
+    mul_l_sound z g k hz hg hk (a ∷ l) m =
+        add_l_sound g hg (map_l (k a) m) (shift z (mul_l z g k l m))
+        ∙ ap₂ add (map_l_sound (k a) (f a) (hk a) m)
+        (shift_sound z hz (mul_l z g k l m) ∙ ap (mul x) (mul_l_sound z g k hz hg hk l m) ∙ sym (mul_assoc x (horner x f l) (horner x f m)))
         ∙ sym (distrib_right R (f a) (mul x (horner x f l)) (horner x f m))
 
-    allL-sound : (t : A → Bool) → ((a : A) → T (t a) → f a ≡ o) → (l : List A) → T (all_l t l) → horner x f l ≡ o
+    all_l_sound : (t : A → Bool) → ((a : A) → T (t a) → f a ≡ o) → (l : List A) → T (all_l t l) → horner x f l ≡ o
     unfolding horner
-    allL-sound t h [] p = refl
-    allL-sound t h (a ∷ l) p =
-        ap₂ add (h a (T-and_left (t a) (all_l t l) p)) (ap (mul x) (allL-sound t h l (T-and_right (t a) (all_l t l) p)) ∙ mul-zero R x) ∙ add-zero o
+    all_l_sound t h [] p = refl
+    all_l_sound t h (a ∷ l) p =
+        ap₂ add (h a (T-and_left (t a) (all_l t l) p)) (ap (mul x) (all_l_sound t h l (T-and_right (t a) (all_l t l) p)) ∙ mul_zero R x) ∙ add-zero o
 
   -- the polynomials
-  zeroP-sound : (ρ : List C) → evP ρ (zero_p (length ρ)) ≡ o
-  unfolding evP evC nat horner
-  zeroP-sound [] = add-neg o
-  zeroP-sound (x ∷ ρ) = refl
+  zero_p_sound : (ρ : List C) → ev_p ρ (zero_p (length ρ)) ≡ o
+  unfolding ev_p ev_c nat horner
+  zero_p_sound [] = add-neg o
+  zero_p_sound (x ∷ ρ) = refl
 
-  litP-sound : (ρ : List C) (k : ℕ) → evP ρ (lit_p (length ρ) k) ≡ nat R k
-  unfolding evP horner
-  litP-sound [] k = litC-sound k
-  litP-sound (x ∷ ρ) k = ap₂ add (litP-sound ρ k) (mul-zero R x) ∙ add-zero (nat R k)
+  lit_p_sound : (ρ : List C) (k : ℕ) → ev_p ρ (lit_p (length ρ) k) ≡ nat R k
+  unfolding ev_p horner
+  lit_p_sound [] k = lit_c_sound k
+  lit_p_sound (x ∷ ρ) k = ap₂ add (lit_p_sound ρ k) (mul_zero R x) ∙ add-zero (nat R k)
 
-  varP-sound : (ρ : List C) (j : ℕ) → evP ρ (var_p (length ρ) j) ≡ nth ρ j
-  unfolding evP horner evC nat
-  varP-sound [] j = add-neg o
-  varP-sound (x ∷ ρ) zero =
-      ap₂ add (zeroP-sound ρ) (ap (mul x) (ap₂ add (litP-sound ρ 1 ∙ nat-one R) (mul-zero R x) ∙ add-zero i) ∙ mul-one x) ∙ zero-add R x
-  varP-sound (x ∷ ρ) (suc j) = ap₂ add (varP-sound ρ j) (mul-zero R x) ∙ add-zero (nth ρ j)
+  var_p_sound : (ρ : List C) (j : ℕ) → ev_p ρ (var_p (length ρ) j) ≡ nth ρ j
+  unfolding ev_p horner ev_c nat
+  var_p_sound [] j = add-neg o
+  var_p_sound (x ∷ ρ) zero =
+      ap₂ add (zero_p_sound ρ) (ap (mul x) (ap₂ add (lit_p_sound ρ 1 ∙ nat_one R) (mul_zero R x) ∙ add-zero i) ∙ mul-one x) ∙ zero-add R x
+  var_p_sound (x ∷ ρ) (suc j) = ap₂ add (var_p_sound ρ j) (mul_zero R x) ∙ add-zero (nth ρ j)
 
-  addP-sound : (ρ : List C) (p q : Poly (length ρ)) → evP ρ (add_p (length ρ) p q) ≡ add (evP ρ p) (evP ρ q)
-  unfolding evP
-  addP-sound [] p q = addC-sound p q
-  addP-sound (x ∷ ρ) p q = addL-sound x (evP ρ) (add_p (length ρ)) (addP-sound ρ) p q
+  add_p_sound : (ρ : List C) (p q : Poly (length ρ)) → ev_p ρ (add_p (length ρ) p q) ≡ add (ev_p ρ p) (ev_p ρ q)
+  unfolding ev_p
+  add_p_sound [] p q = add_c_sound p q
+  add_p_sound (x ∷ ρ) p q = add_l_sound x (ev_p ρ) (add_p (length ρ)) (add_p_sound ρ) p q
 
-  negP-sound : (ρ : List C) (p : Poly (length ρ)) → evP ρ (neg_p (length ρ) p) ≡ neg (evP ρ p)
-  unfolding evP
-  negP-sound [] p = negC-sound p
-  negP-sound (x ∷ ρ) p = negL-sound x (evP ρ) (neg_p (length ρ)) (negP-sound ρ) p
+  neg_p_sound : (ρ : List C) (p : Poly (length ρ)) → ev_p ρ (neg_p (length ρ) p) ≡ neg (ev_p ρ p)
+  unfolding ev_p
+  neg_p_sound [] p = neg_c_sound p
+  neg_p_sound (x ∷ ρ) p = neg_l_sound x (ev_p ρ) (neg_p (length ρ)) (neg_p_sound ρ) p
 
-  mulP-sound : (ρ : List C) (p q : Poly (length ρ)) → evP ρ (mul_p (length ρ) p q) ≡ mul (evP ρ p) (evP ρ q)
-  unfolding evP
-  mulP-sound [] p q = mulC-sound p q
-  mulP-sound (x ∷ ρ) p q =
-      mulL-sound x (evP ρ) (zero_p (length ρ)) (add_p (length ρ)) (mul_p (length ρ)) (zeroP-sound ρ) (addP-sound ρ) (mulP-sound ρ) p q
+  mul_p_sound : (ρ : List C) (p q : Poly (length ρ)) → ev_p ρ (mul_p (length ρ) p q) ≡ mul (ev_p ρ p) (ev_p ρ q)
+  unfolding ev_p
+  mul_p_sound [] p q = mul_c_sound p q
+  mul_p_sound (x ∷ ρ) p q =
+      mul_l_sound x (ev_p ρ) (zero_p (length ρ)) (add_p (length ρ)) (mul_p (length ρ)) (zero_p_sound ρ) (add_p_sound ρ) (mul_p_sound ρ) p q
 
-  nullP-sound : (ρ : List C) (p : Poly (length ρ)) → T (null_p (length ρ) p) → evP ρ p ≡ o
-  unfolding evP
-  nullP-sound [] p t = nullC-sound p t
-  nullP-sound (x ∷ ρ) p t = allL-sound x (evP ρ) (null_p (length ρ)) (nullP-sound ρ) p t
+  null_p_sound : (ρ : List C) (p : Poly (length ρ)) → T (null_p (length ρ) p) → ev_p ρ p ≡ o
+  unfolding ev_p
+  null_p_sound [] p t = null_c_sound p t
+  null_p_sound (x ∷ ρ) p t = all_l_sound x (ev_p ρ) (null_p (length ρ)) (null_p_sound ρ) p t
 
-  normal-sound : (ρ : List C) (e : Expr) → evP ρ (normal (length ρ) e) ≡ ev ρ e
-  normal-sound ρ (var j) = varP-sound ρ j
-  normal-sound ρ (lit k) = litP-sound ρ k
-  normal-sound ρ nil = zeroP-sound ρ
-  normal-sound ρ one = litP-sound ρ 1 ∙ nat-one R
-  normal-sound ρ (a ⊕ b) = addP-sound ρ (normal (length ρ) a) (normal (length ρ) b) ∙ ap₂ add (normal-sound ρ a) (normal-sound ρ b)
-  normal-sound ρ (a ⊗ b) = mulP-sound ρ (normal (length ρ) a) (normal (length ρ) b) ∙ ap₂ mul (normal-sound ρ a) (normal-sound ρ b)
-  normal-sound ρ (⊖ a) = negP-sound ρ (normal (length ρ) a) ∙ ap neg (normal-sound ρ a)
+  normal_sound : (ρ : List C) (e : Expr) → ev_p ρ (normal (length ρ) e) ≡ ev ρ e
+  normal_sound ρ (var j) = var_p_sound ρ j
+  normal_sound ρ (lit k) = lit_p_sound ρ k
+  normal_sound ρ nil = zero_p_sound ρ
+  normal_sound ρ one = lit_p_sound ρ 1 ∙ nat_one R
+  normal_sound ρ (a ⊕ b) = add_p_sound ρ (normal (length ρ) a) (normal (length ρ) b) ∙ ap₂ add (normal_sound ρ a) (normal_sound ρ b)
+  normal_sound ρ (a ⊗ b) = mul_p_sound ρ (normal (length ρ) a) (normal (length ρ) b) ∙ ap₂ mul (normal_sound ρ a) (normal_sound ρ b)
+  normal_sound ρ (⊖ a) = neg_p_sound ρ (normal (length ρ) a) ∙ ap neg (normal_sound ρ a)
 
   pub solve : (ρ : List C) (a b : Expr) → Equal (length ρ) a b → ev ρ a ≡ ev ρ b
   solve ρ a b t =
-      eq-of-sub R (ev ρ a) (ev ρ b)
-      (sym (normal-sound ρ (a ⊕ ⊖ b)) ∙ nullP-sound ρ (normal (length ρ) (a ⊕ ⊖ b)) t)
+      eq_of_sub R (ev ρ a) (ev ρ b)
+      (sym (normal_sound ρ (a ⊕ ⊖ b)) ∙ null_p_sound ρ (normal (length ρ) (a ⊕ ⊖ b)) t)

@@ -12,10 +12,10 @@ use Rattle.algebra.specs.Element.{Triple, Below, zero, product, inverse}
 use Rattle.algebra.specs.Polynomial.{All, Distinct, value}
 use Rattle.algebra.specs.Theorems.{ModulusPrime, NoRoot, BaseInverse, ElementInverse, ElementsAreAField, NoZeroDivisors, RootBound}
 use Rattle.algebra.proofs.Primality.{p_prime}
-use Rattle.algebra.proofs.FieldLaws.{field-cancel}
+use Rattle.algebra.proofs.FieldLaws.{field_cancel}
 use Rattle.algebra.proofs.Base.{BaseRing, el, el-injective, el-times, el_zero, el_one, el-laws, el-nonzero, el-inverse, base_inverse_below, times_below}
 use Rattle.algebra.proofs.NoRoot.{base_no_root}
-use Rattle.algebra.proofs.Cubic.{ops, cubicAt}
+use Rattle.algebra.proofs.Cubic.{ops, cubic_at}
 use Rattle.algebra.proofs.Roots as roots
 use Rattle.algebra.proofs.Elements as law
 use Rattle.algebra.proofs.Elements.{ElementRing, into, into_zero, into_one, into-sum, into-product, into-injective, triple_discrete, zero_below, one_below, product-below}
@@ -24,7 +24,7 @@ use Rattle.algebra.proofs.ElementField.{element_field, into-nonzero, into-invers
 pub modulus_prime : ModulusPrime
 modulus_prime = p_prime
 
-el-cubic : (x : ℕ) → el (plus (minus (times x (times x x)) x) 1) ≡ cubicAt (ops BaseRing) (el x)
+el-cubic : (x : ℕ) → el (plus (minus (times x (times x x)) x) 1) ≡ cubic_at (ops BaseRing) (el x)
 el-cubic x = simp el-laws
 
 pub no_root : NoRoot
@@ -72,7 +72,7 @@ no_zero_divisors a b h k e = go (triple_discrete a zero)
     go (yes z) = inl z
     go (no f) =
         inr (into-injective b zero k zero_below
-        (field-cancel ElementRing element_field (into a) (into b) (into-nonzero a h f) (sym (into-product a b) ∙ ap into e ∙ into_zero)
+        (field_cancel ElementRing element_field (into a) (into b) (into-nonzero a h f) (sym (into-product a b) ∙ ap into e ∙ into_zero)
         ∙ sym into_zero))
 
 -- polynomials and points as the ring has them

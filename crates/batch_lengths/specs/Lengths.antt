@@ -12,7 +12,7 @@ height_length k = cond (eqb k 0) 0 2
 abbrev pub batch_length : (k rows words : ℕ) → ℕ
 batch_length k rows words = 1464 + height_length k + 313 * rows + 9 * words
 
--- whole rows, lists within their counts, and the batch of the batch's length: `batch_writer` Write `rightLengths`, by the lengths alone
+-- whole rows, lists within their counts, and the batch of the batch's length: `batch_writer` Write `right_lengths`, by the lengths alone
 abbrev pub right_numbers : (trace op_stack ram jump_stack sampled digest input output k batch : ℕ) → Bool
 right_numbers trace op_stack ram jump_stack sampled digest input output k batch =
     eqb (trace % MAIN-WIDTH) 0

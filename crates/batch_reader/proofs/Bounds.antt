@@ -50,16 +50,16 @@ module _ (code : ℕ) (bytes : List ℕ) where
   first_is p = eqb-true code TRACE-ROWS (not-false (eqb code TRACE-ROWS) p.after_first)
 
   -- 01 comes once
-  later-is-not : (k : Command) (ks : List Command) → Bounded (k ∷ ks) → Passes (seen_in (k ∷ ks)) code bytes → code ≡ TRACE-ROWS → ⊥
+  later_is_not : (k : Command) (ks : List Command) → Bounded (k ∷ ks) → Passes (seen_in (k ∷ ks)) code bytes → code ≡ TRACE-ROWS → ⊥
   unfolding count
-  later-is-not k ks b p e =
+  later_is_not k ks b p e =
       let u : cond (eqb k.code TRACE-ROWS) 1 0 + count TRACE-ROWS ks < 1 = rw e at p.under in
       let v : 1 + count TRACE-ROWS ks < 1 = rw (eq-eqb k.code TRACE-ROWS b.first) at u in
       omega arith
 
-  pub announced-next : (before : List Command) → Bounded before → Passes (seen_in before) code bytes → announced (before ++ (next ∷ [])) ≡ cond (eqb code TRACE-ROWS) (number (take (width code) bytes)) (announced before)
-  announced-next [] b p = rw (eq-eqb code TRACE-ROWS (first_is p))
-  announced-next (k ∷ ks) b p = rw (ne_eqb code TRACE-ROWS (later-is-not k ks b p))
+  pub announced_next : (before : List Command) → Bounded before → Passes (seen_in before) code bytes → announced (before ++ (next ∷ [])) ≡ cond (eqb code TRACE-ROWS) (number (take (width code) bytes)) (announced before)
+  announced_next [] b p = rw (eq-eqb code TRACE-ROWS (first_is p))
+  announced_next (k ∷ ks) b p = rw (ne_eqb code TRACE-ROWS (later_is_not k ks b p))
 
   few : code ≡ TRACE-ROWS → wrong_row_count code (take (width code) bytes) ≡ false → number (take (width code) bytes) ≤ 32
   few e w =
@@ -67,9 +67,9 @@ module _ (code : ℕ) (bytes : List ℕ) where
       let v = and-true (leb 1 n) (leb n 32) (not-false (leb 1 n && leb n 32) (rw e at w)) in
       rw e (leb-true n 32 v.1)
 
-  bounded-first : fault (seen_in []) code bytes ≡ Done → Bounded (next ∷ [])
+  bounded_first : fault (seen_in []) code bytes ≡ Done → Bounded (next ∷ [])
   unfolding count
-  bounded-first d =
+  bounded_first d =
       let p = passing (seen_in []) code bytes d in
       let e = first_is p in
       record {
@@ -81,9 +81,9 @@ module _ (code : ℕ) (bytes : List ℕ) where
   under_at : (before : List Command) (c : ℕ) → Passes (seen_in before) code bytes → code ≡ c → count c before < limit (announced before) c
   under_at before c p e = rw (sym e) (rw (count_at before code p.known) at p.under)
 
-  pub bounded-next : (before : List Command) → fault (seen_in before) code bytes ≡ Done → Bounded before → Bounded (before ++ (next ∷ []))
-  bounded-next [] d b = bounded-first d
-  bounded-next (k ∷ ks) d b =
+  pub bounded_next : (before : List Command) → fault (seen_in before) code bytes ≡ Done → Bounded before → Bounded (before ++ (next ∷ []))
+  bounded_next [] d b = bounded_first d
+  bounded_next (k ∷ ks) d b =
       let p = passing (seen_in (k ∷ ks)) code bytes d in
       record {
         first = b.first;
@@ -97,11 +97,11 @@ module _ (code : ℕ) (bytes : List ℕ) where
   pub once : (before : List Command) → Passes (seen_in before) code bytes → code ≡ HEIGHT → count HEIGHT before ≡ 0
   once before p e = omega (arith, under_at before HEIGHT p e)
 
-  pub height-next : (before : List Command) → Passes (seen_in before) code bytes → height_of (before ++ (next ∷ [])) ≡ cond (eqb code HEIGHT) (number (take (width code) bytes)) (height_of before)
-  height-next before p = height_one before next (once before p)
+  pub height_next : (before : List Command) → Passes (seen_in before) code bytes → height_of (before ++ (next ∷ [])) ≡ cond (eqb code HEIGHT) (number (take (width code) bytes)) (height_of before)
+  height_next before p = height_one before next (once before p)
 
 pub bounded : (batch : List ℕ) (ks : List Command) → reading batch ≡ read ks → Bounded ks
-bounded batch ks e = let a = at_start batch in kept Bounded (λ before code bytes. bounded-next code bytes before) a.fuel [] batch ks none_bounded (sym a.rest ∙ e)
+bounded batch ks e = let a = at_start batch in kept Bounded (λ before code bytes. bounded_next code bytes before) a.fuel [] batch ks none_bounded (sym a.rest ∙ e)
 
 -- each line's number is at most `most`
 abbrev AllAtMost : ℕ → (Line → ℕ) → List Line → Type 0
@@ -131,18 +131,18 @@ height_right : (rows code : ℕ) (operand : List ℕ) → eqb code HEIGHT ≡ tr
 height_right rows code operand e h = rw e at h
 
 module _ (code : ℕ) (bytes : List ℕ) where
-  set-by : (k : Command) (ks : List Command) (same : Bool) → eqb code HEIGHT ≡ same → Passes (seen_in (k ∷ ks)) code bytes → HeightSet (k ∷ ks) → HeightSet (k ∷ ks ++ (next code bytes ∷ []))
-  set-by k ks true e p s =
+  set_by : (k : Command) (ks : List Command) (same : Bool) → eqb code HEIGHT ≡ same → Passes (seen_in (k ∷ ks)) code bytes → HeightSet (k ∷ ks) → HeightSet (k ∷ ks ++ (next code bytes ∷ []))
+  set_by k ks true e p s =
       let is = eqb-true code HEIGHT e in
       let n : count HEIGHT (k ∷ ks ++ (next code bytes ∷ [])) ≡ 1 = count_one HEIGHT (k ∷ ks) (next code bytes) ∙ rw (e, once code bytes (k ∷ ks) p is) in
-      let h : height_of (k ∷ ks ++ (next code bytes ∷ [])) ≡ number (take (width code) bytes) = height-next code bytes (k ∷ ks) p ∙ rw e in
+      let h : height_of (k ∷ ks ++ (next code bytes ∷ [])) ≡ number (take (width code) bytes) = height_next code bytes (k ∷ ks) p ∙ rw e in
       inr (n, rw h (height_right (announced (k ∷ ks)) code (take (width code) bytes) e p.height))
-  set-by k ks false e p (inl s) =
+  set_by k ks false e p (inl s) =
       let n : count HEIGHT (k ∷ ks ++ (next code bytes ∷ [])) ≡ 0 = count_one HEIGHT (k ∷ ks) (next code bytes) ∙ rw (e, s.0) in
       inl (n, no_height (k ∷ ks ++ (next code bytes ∷ [])) n)
-  set-by k ks false e p (inr s) =
+  set_by k ks false e p (inr s) =
       let n : count HEIGHT (k ∷ ks ++ (next code bytes ∷ [])) ≡ 1 = count_one HEIGHT (k ∷ ks) (next code bytes) ∙ rw (e, s.0) in
-      let h : height_of (k ∷ ks ++ (next code bytes ∷ [])) ≡ height_of (k ∷ ks) = height-next code bytes (k ∷ ks) p ∙ rw e in
+      let h : height_of (k ∷ ks ++ (next code bytes ∷ [])) ≡ height_of (k ∷ ks) = height_next code bytes (k ∷ ks) p ∙ rw e in
       inr (n, rw h s.1)
 
   set_next : (before : List Command) → fault (seen_in before) code bytes ≡ Done → HeightSet before → HeightSet (before ++ (next code bytes ∷ []))
@@ -150,7 +150,7 @@ module _ (code : ℕ) (bytes : List ℕ) where
   set_next [] d s =
       let n : count HEIGHT (next code bytes ∷ []) ≡ 0 = rw (first_is code bytes (passing (seen_in []) code bytes d)) in
       inl (n, no_height (next code bytes ∷ []) n)
-  set_next (k ∷ ks) d s = set-by k ks (eqb code HEIGHT) refl (passing (seen_in (k ∷ ks)) code bytes d) s
+  set_next (k ∷ ks) d s = set_by k ks (eqb code HEIGHT) refl (passing (seen_in (k ∷ ks)) code bytes d) s
 
 pub height_set : (batch : List ℕ) (ks : List Command) → reading batch ≡ read ks → HeightSet ks
 unfolding count

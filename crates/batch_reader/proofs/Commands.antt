@@ -50,16 +50,16 @@ module _ (f g : ℕ → ℕ) where
   map-past a (suc n) h = rw (h a (omega arith), map-past (suc a) n (λ c l. h c (omega arith)))
 
   -- two maps that differ at a + i alone
-  map-but-one : (a n i : ℕ) → i < n → ((c : ℕ) → (a + i ≡ c → ⊥) → g c ≡ f c) → map g (from a n) ≡ set (map f (from a n)) i (g (a + i))
-  map-but-one a zero i l h = absurd (not-suc-le-zero l)
-  map-but-one a (suc n) zero l h = rw (add-zero, map-past (suc a) n (λ c m. h c (λ e. omega arith)))
-  map-but-one a (suc n) (suc i) l h =
+  map-but_one : (a n i : ℕ) → i < n → ((c : ℕ) → (a + i ≡ c → ⊥) → g c ≡ f c) → map g (from a n) ≡ set (map f (from a n)) i (g (a + i))
+  map-but_one a zero i l h = absurd (not-suc-le-zero l)
+  map-but_one a (suc n) zero l h = rw (add-zero, map-past (suc a) n (λ c m. h c (λ e. omega arith)))
+  map-but_one a (suc n) (suc i) l h =
       let e : a + suc i ≡ suc a + i = omega arith in
-      rw (h a (λ e. omega arith), e, map-but-one (suc a) n i (omega arith) (λ c m. h c (λ q. m (omega arith))))
+      rw (h a (λ e. omega arith), e, map-but_one (suc a) n i (omega arith) (λ c m. h c (λ q. m (omega arith))))
 
 pub counts_one : (ks : List Command) (k : Command) → k.code < COMMANDS → counts (ks ++ (k ∷ [])) ≡ set (counts ks) k.code (count k.code ks + 1)
 counts_one ks k l =
-    map-but-one (λ c. count c ks) (λ c. count c (ks ++ (k ∷ []))) 0 COMMANDS k.code l (λ c h. count_one c ks k ∙ rw (ne_eqb k.code c (λ e. h (zero-add k.code ∙ e)), add-zero))
+    map-but_one (λ c. count c ks) (λ c. count c (ks ++ (k ∷ []))) 0 COMMANDS k.code l (λ c h. count_one c ks k ∙ rw (ne_eqb k.code c (λ e. h (zero-add k.code ∙ e)), add-zero))
     ∙ rw (zero-add, count_one k.code ks k, eq-eqb k.code k.code refl)
 
 pub count_at : (ks : List Command) (code : ℕ) → code < COMMANDS → get_or (counts ks) code 0 ≡ count code ks
@@ -79,18 +79,18 @@ last_key_lem before (j ∷ ks) k = last_key_lem (key j.code j.operand) ks k
 pub height_one : (ks : List Command) (k : Command) → (k.code ≡ HEIGHT → count HEIGHT ks ≡ 0) → height_of (ks ++ (k ∷ [])) ≡ cond (eqb k.code HEIGHT) (number k.operand) (height_of ks)
 unfolding height_of count
 height_one [] k h = refl
-height_one (j ∷ ks) k h = by-test (eqb j.code HEIGHT) h (height_one ks k)
+height_one (j ∷ ks) k h = by_test (eqb j.code HEIGHT) h (height_one ks k)
   where
-    by-test : (same : Bool) → (k.code ≡ HEIGHT → cond same 1 0 + count HEIGHT ks ≡ 0) → ((k.code ≡ HEIGHT → count HEIGHT ks ≡ 0) → height_of (ks ++ (k ∷ [])) ≡ cond (eqb k.code HEIGHT) (number k.operand) (height_of ks))
+    by_test : (same : Bool) → (k.code ≡ HEIGHT → cond same 1 0 + count HEIGHT ks ≡ 0) → ((k.code ≡ HEIGHT → count HEIGHT ks ≡ 0) → height_of (ks ++ (k ∷ [])) ≡ cond (eqb k.code HEIGHT) (number k.operand) (height_of ks))
         → cond same (number j.operand) (height_of (ks ++ (k ∷ []))) ≡ cond (eqb k.code HEIGHT) (number k.operand) (cond same (number j.operand) (height_of ks))
-    by-test true once rest = rw (ne_eqb k.code HEIGHT (λ e. let z = once e in omega arith))
-    by-test false once rest = rest (λ e. let z = once e in omega arith)
+    by_test true once rest = rw (ne_eqb k.code HEIGHT (λ e. let z = once e in omega arith))
+    by_test false once rest = rest (λ e. let z = once e in omega arith)
 
 pub no_height : (ks : List Command) → count HEIGHT ks ≡ 0 → height_of ks ≡ 0
 unfolding height_of count
 no_height [] z = refl
-no_height (k ∷ ks) z = by-test (eqb k.code HEIGHT) z (no_height ks)
+no_height (k ∷ ks) z = by_test (eqb k.code HEIGHT) z (no_height ks)
   where
-    by-test : (same : Bool) → cond same 1 0 + count HEIGHT ks ≡ 0 → (count HEIGHT ks ≡ 0 → height_of ks ≡ 0) → cond same (number k.operand) (height_of ks) ≡ 0
-    by-test true z rest = absurd (omega arith)
-    by-test false z rest = rest (omega arith)
+    by_test : (same : Bool) → cond same 1 0 + count HEIGHT ks ≡ 0 → (count HEIGHT ks ≡ 0 → height_of ks ≡ 0) → cond same (number k.operand) (height_of ks) ≡ 0
+    by_test true z rest = absurd (omega arith)
+    by_test false z rest = rest (omega arith)

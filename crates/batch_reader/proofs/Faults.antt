@@ -42,21 +42,21 @@ whole_by false false code k e = (refl, refl, cc)
 
 -- what a head says of the step
 module _ (seen : Seen) where
-  pub unknown-step : (bytes : List ℕ) → head_of bytes ≡ Unknown → step_of seen bytes ≡ Stop (Refused UnknownCommand)
+  pub unknown_step : (bytes : List ℕ) → head_of bytes ≡ Unknown → step_of seen bytes ≡ Stop (Refused UnknownCommand)
   unfolding fault
-  unknown-step [] e = cc
-  unknown-step (code ∷ bytes) e = rw (unknown_by (not (known code)) (ltb (length bytes) (width code)) code e)
+  unknown_step [] e = cc
+  unknown_step (code ∷ bytes) e = rw (unknown_by (not (known code)) (ltb (length bytes) (width code)) code e)
 
-  pub cut-off-step : (bytes : List ℕ) → head_of bytes ≡ CutOff → step_of seen bytes ≡ Stop (Refused BatchCutOff)
+  pub cut_off_step : (bytes : List ℕ) → head_of bytes ≡ CutOff → step_of seen bytes ≡ Stop (Refused BatchCutOff)
   unfolding fault
-  cut-off-step [] e = refl
-  cut-off-step (code ∷ bytes) e = let h = cut_off_by (not (known code)) (ltb (length bytes) (width code)) code e in rw (h.0, h.1)
+  cut_off_step [] e = refl
+  cut_off_step (code ∷ bytes) e = let h = cut_off_by (not (known code)) (ltb (length bytes) (width code)) code e in rw (h.0, h.1)
 
-  pub whole-step : (bytes : List ℕ) (k : ℕ) → head_of bytes ≡ Whole k
+  pub whole_step : (bytes : List ℕ) (k : ℕ) → head_of bytes ≡ Whole k
       → (k < COMMANDS) × (1 + width k ≤ length bytes) × (step_of seen bytes ≡ step_by (judged seen k (drop 1 bytes)) k seen.came seen.log2_height)
   unfolding fault judged
-  whole-step [] k e = let z : ◌≡◌ {A = ℕ} 0 1 = cc in (omega arith, omega arith, cc)
-  whole-step (code ∷ bytes) k e =
+  whole_step [] k e = let z : ◌≡◌ {A = ℕ} 0 1 = cc in (omega arith, omega arith, cc)
+  whole_step (code ∷ bytes) k e =
       let h = whole_by (not (known code)) (ltb (length bytes) (width code)) code k e in
       let known = leb-false COMMANDS code (sym (unknown code) ∙ h.0) in
       let whole = ltb-false (length bytes) (width code) h.1 in

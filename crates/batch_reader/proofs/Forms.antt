@@ -32,21 +32,21 @@ module _ (before : List Command) (code : ℕ) (bytes : List ℕ) (p : Passes (se
   no_more : (c : ℕ) → count c before ≡ 0 → (code ≡ c → ⊥) → count c all ≡ 0
   no_more c z n = count_one c before _ ∙ rw (z, ne_eqb code c n)
 
-  keep-by : (row montgomery : Bool) → eqb code ROW ≡ row → eqb code MONTGOMERY-ROW ≡ montgomery → Unmixed before → Unmixed all
-  keep-by true m e q u =
+  keep_by : (row montgomery : Bool) → eqb code ROW ≡ row → eqb code MONTGOMERY-ROW ≡ montgomery → Unmixed before → Unmixed all
+  keep_by true m e q u =
       let is = eqb-true code ROW e in
       inl (no_more MONTGOMERY-ROW (eqb-true (count MONTGOMERY-ROW before) 0 (not-false _ (rw is at p.unmixed))) (λ z. omega arith))
-  keep-by false true e q u =
+  keep_by false true e q u =
       let is = eqb-true code MONTGOMERY-ROW q in
       inr (no_more ROW (eqb-true (count ROW before) 0 (not-false _ (rw is at p.unmixed))) (λ z. omega arith))
-  keep-by false false e q (inl z) = inl (no_more MONTGOMERY-ROW z (eqb-false code MONTGOMERY-ROW q))
-  keep-by false false e q (inr z) = inr (no_more ROW z (eqb-false code ROW e))
+  keep_by false false e q (inl z) = inl (no_more MONTGOMERY-ROW z (eqb-false code MONTGOMERY-ROW q))
+  keep_by false false e q (inr z) = inr (no_more ROW z (eqb-false code ROW e))
 
 unmixed : (batch : List ℕ) (ks : List Command) → reading batch ≡ read ks → Unmixed ks
 unfolding count
 unmixed batch ks e =
     let a = at_start batch in
-    kept Unmixed (λ before code bytes d. keep-by before code bytes (passing (seen_in before) code bytes d) (eqb code ROW) (eqb code MONTGOMERY-ROW) refl refl) a.fuel [] batch ks (inl refl) (sym a.rest ∙ e)
+    kept Unmixed (λ before code bytes d. keep_by before code bytes (passing (seen_in before) code bytes d) (eqb code ROW) (eqb code MONTGOMERY-ROW) refl refl) a.fuel [] batch ks (inl refl) (sym a.rest ∙ e)
 
 one_by : (ks : List Command) (none : Bool) → eqb (count MONTGOMERY-ROW ks) 0 ≡ none → Unmixed ks → count (row_command (other_form (cond none Plain Montgomery))) ks ≡ 0
 one_by ks true e u = eqb-true (count MONTGOMERY-ROW ks) 0 e
@@ -58,11 +58,11 @@ one_form batch ks e = one_by ks (eqb (count MONTGOMERY-ROW ks) 0) refl (unmixed 
 
 -- and rows of one form are no mixture
 pub no_mixture : (form : Form) (before : List Command) (code : ℕ) → count (row_command (other_form form)) before ≡ 0 → OfForm form code → mixed (counts before) code ≡ false
-no_mixture Plain before code z n = rw (eq-eqb (count MONTGOMERY-ROW before) 0 z, ne_eqb code MONTGOMERY-ROW n) (false-either (eqb code ROW))
+no_mixture Plain before code z n = rw (eq-eqb (count MONTGOMERY-ROW before) 0 z, ne_eqb code MONTGOMERY-ROW n) (false_either (eqb code ROW))
   where
-    false-either : (b : Bool) → cond b false false ≡ false
-    false-either true = refl
-    false-either false = refl
+    false_either : (b : Bool) → cond b false false ≡ false
+    false_either true = refl
+    false_either false = refl
 no_mixture Montgomery before code z n = rw (ne_eqb code ROW n, eq-eqb (count ROW before) 0 z) (and-false (eqb code MONTGOMERY-ROW))
   where
     and-false : (b : Bool) → (b && false) ≡ false

@@ -17,13 +17,13 @@ use Rattle.batch_commands.proofs.Tables.{key_within, words_within_operand}
 use Rattle.batch_commands.proofs.Laid.{laid_append}
 use Rattle.batch_reader.specs.Commands.{seen_in}
 use Rattle.batch_reader.specs.Reading.{Reading, read, read_from, reading}
-use Rattle.batch_reader.proofs.Passing.{Passes, passing, no-fault}
+use Rattle.batch_reader.proofs.Passing.{Passes, passing, no_fault}
 use Rattle.batch_reader.proofs.Readings.{Along, of_unless}
 
 -- whether a command passes says its operand
 module _ (seen : Seen) (code : ℕ) (bytes others : List ℕ) (more : code ≡ END → ⊥) (whole : width code ≤ length others) (same : take (width code) bytes ≡ take (width code) others) where
-  pub passes-alike : Passes seen code bytes → Passes seen code others
-  passes-alike p =
+  pub passes_alike : Passes seen code bytes → Passes seen code others
+  passes_alike p =
       let k : key code bytes ≡ key code others = sym (key_within code bytes p.known) ∙ ap (key code) same ∙ key_within code others p.known in
       let w : words_in code bytes ≡ words_in code others = sym (words_within_operand code bytes p.known) ∙ ap (words_in code) same ∙ words_within_operand code others p.known in
       record {
@@ -59,8 +59,8 @@ unfolding read_from
 step n before k rest next =
     let t : take (width k.code) (k.operand ++ rest) ≡ k.operand = take_at k.operand rest (width k.code) next.whole in
     let all : take (width k.code) k.operand ≡ k.operand = take_all (width k.code) k.operand (omega (arith, next.whole)) in
-    let p = passes-alike (seen_in before) k.code k.operand (k.operand ++ rest) next.more (omega (arith, next.whole, length-append k.operand rest)) (all ∙ sym t) next.passes in
-    rw (no-fault (seen_in before) k.code (k.operand ++ rest) p, t, drop_at k.operand rest (width k.code) next.whole, ne_eqb k.code END next.more)
+    let p = passes_alike (seen_in before) k.code k.operand (k.operand ++ rest) next.more (omega (arith, next.whole, length-append k.operand rest)) (all ∙ sym t) next.passes in
+    rw (no_fault (seen_in before) k.code (k.operand ++ rest) p, t, drop_at k.operand rest (width k.code) next.whole, ne_eqb k.code END next.more)
 
 -- and many
 pub steps : (n : ℕ) (before ks : List Command) (rest : List ℕ) → Faultless before ks → read_from (n + length ks) before (laid_out ks ++ rest) ≡ read_from n (before ++ ks) rest
@@ -103,7 +103,7 @@ along batch before after l =
 ends : (n : ℕ) (before : List Command) → 0 < n → Passes (seen_in before) END [] → read_from n before (END ∷ []) ≡ read before
 unfolding read_from
 ends zero before l p = absurd (not-suc-le-zero l)
-ends (suc n) before l p = rw (no-fault (seen_in before) END [] p)
+ends (suc n) before l p = rw (no_fault (seen_in before) END [] p)
 
 pub is_read : (batch : List ℕ) (ks : List Command) → Laid batch ks → reading batch ≡ read ks
 is_read batch ks l =
@@ -144,7 +144,7 @@ read_on before code bytes ks next false q p e h =
       after = k ∷ r.after;
       parts = r.parts ∙ append_assoc before (k ∷ []) r.after;
       is = ap (◌∷◌ code) (sym (take-append-drop (width code) bytes) ∙ ap (◌++◌ (take (width code) bytes)) r.is ∙ sym (append_assoc (take (width code) bytes) (laid_out r.after) (END ∷ [])));
-      faultless = (record { more = more; whole = length-take-le (width code) bytes p.whole; passes = passes-alike (seen_in before) code bytes (take (width code) bytes) more (omega (arith, length-take-le (width code) bytes p.whole)) (sym (take-take (width code) (width code) bytes (omega arith))) p }, r.faultless);
+      faultless = (record { more = more; whole = length-take-le (width code) bytes p.whole; passes = passes_alike (seen_in before) code bytes (take (width code) bytes) more (omega (arith, length-take-le (width code) bytes p.whole)) (sym (take-take (width code) (width code) bytes (omega arith))) p }, r.faultless);
       complete = r.complete;
     }
 

@@ -51,7 +51,7 @@ module _ (seen : Seen) (code : ℕ) (bytes : List ℕ) where
         below = not-false (all_below (words_in code bytes)) judged-well.1.1.1.1.0;
       }
 
-  pub no-fault : Passes seen code bytes → fault seen code bytes ≡ Done
+  pub no_fault : Passes seen code bytes → fault seen code bytes ≡ Done
   unfolding fault judged
-  no-fault p =
+  no_fault p =
       rw (unknown code, lt-leb COMMANDS code p.known, le-ltb (length bytes) (width code) p.whole, p.after_first, lt-leb (limit seen.rows code) (get_or seen.came code 0) p.under, p.unmixed, p.at_end, p.in_order, p.row_count, p.height, p.below)

@@ -22,7 +22,7 @@ use Rattle.batch_reader.proofs.Passing.{Passes, passing}
 use Rattle.batch_reader.proofs.Faults.{stopped, went}
 use Rattle.batch_reader.proofs.Ordered.{not_before}
 use Rattle.batch_reader.proofs.Readings.{command_at, fault_at, past_at, Along, at_start, nothing_left, goes_on}
-use Rattle.batch_reader.proofs.Bounds.{Bounded, none_bounded, announced-next, bounded-next, height-next, count_small}
+use Rattle.batch_reader.proofs.Bounds.{Bounded, none_bounded, announced_next, bounded_next, height_next, count_small}
 
 pub record Reached (batch : List ℕ) (seen : Seen) (at : ℕ) : Type 0 where
   pub before : List Command
@@ -54,8 +54,8 @@ module _ (batch : List ℕ) (seen : Seen) (at : ℕ) (r : Reached batch seen at)
   abbrev bytes : List ℕ
   bytes = drop (at + 1) batch
 
-  pub stopped-there : (decided : OpenAnswer) → step_of seen (drop at batch) ≡ Stop decided → decided ≡ answer_of (reading batch)
-  stopped-there decided e = stops_at r.along.fuel r.before (drop at batch) decided (rw (length-drop at batch) r.along.enough) (rw r.seen_is at e) ∙ sym (ap answer_of r.along.rest)
+  pub stopped_there : (decided : OpenAnswer) → step_of seen (drop at batch) ≡ Stop decided → decided ≡ answer_of (reading batch)
+  stopped_there decided e = stops_at r.along.fuel r.before (drop at batch) decided (rw (length-drop at batch) r.along.enough) (rw r.seen_is at e) ∙ sym (ap answer_of r.along.rest)
 
   module _ (k : ℕ) (next : step_of seen (drop at batch) ≡ Next k) where
     here : at < length batch
@@ -76,30 +76,30 @@ module _ (batch : List ℕ) (seen : Seen) (at : ℕ) (r : Reached batch seen at)
     pub whole : at + 1 + width k ≤ length batch
     whole = let h = here in rw (sym on.1) (omega (arith, passed.whole, length-drop (at + 1) batch))
 
-    came-at : get_or seen.came code 0 ≡ count code r.before
-    came-at = rw r.seen_is (count_at r.before code passed.known)
+    came_at : get_or seen.came code 0 ≡ count code r.before
+    came_at = rw r.seen_is (count_at r.before code passed.known)
 
-    pub came-few : get_or seen.came k 0 ≤ 128
-    came-few = rw (sym on.1) (rw came-at (count_small r.before r.bounded code passed.known))
+    pub came_few : get_or seen.came k 0 ≤ 128
+    came_few = rw (sym on.1) (rw came_at (count_small r.before r.bounded code passed.known))
 
     seen_next : seen_past seen code bytes ≡ seen_in (r.before ++ (command_at batch at ∷ []))
     seen_next =
-        let n : (seen_past seen code bytes).rows ≡ announced (r.before ++ (command_at batch at ∷ [])) = rw r.seen_is (sym (announced-next code bytes r.before r.bounded passed)) in
-        let h : (seen_past seen code bytes).log2_height ≡ height_of (r.before ++ (command_at batch at ∷ [])) = rw r.seen_is (sym (height-next code bytes r.before passed)) in
-        let m : (seen_past seen code bytes).came ≡ counts (r.before ++ (command_at batch at ∷ [])) = rw (came-at, r.seen_is) (sym (counts_one r.before (command_at batch at) passed.known)) in
+        let n : (seen_past seen code bytes).rows ≡ announced (r.before ++ (command_at batch at ∷ [])) = rw r.seen_is (sym (announced_next code bytes r.before r.bounded passed)) in
+        let h : (seen_past seen code bytes).log2_height ≡ height_of (r.before ++ (command_at batch at ∷ [])) = rw r.seen_is (sym (height_next code bytes r.before passed)) in
+        let m : (seen_past seen code bytes).came ≡ counts (r.before ++ (command_at batch at ∷ [])) = rw (came_at, r.seen_is) (sym (counts_one r.before (command_at batch at) passed.known)) in
         let b = not_before (highest_rank r.before) (last_key 0 r.before) (rank code) (key code bytes) passed.in_order in
         let k : (seen_past seen code bytes).rank ≡ highest_rank (r.before ++ (command_at batch at ∷ [])) = omega (arith, b.0, highest_one r.before (command_at batch at)) in
         let l : (seen_past seen code bytes).key ≡ last_key 0 (r.before ++ (command_at batch at ∷ [])) = sym (last_key_lem 0 r.before (command_at batch at) ∙ key_within code bytes passed.known) in
         λ i. record { rows = n i; log2_height = h i; came = m i; rank = k i; key = l i }
 
-    reached-past : Reached batch (seen_past seen code bytes) (past_at batch at)
-    reached-past =
+    reached_past : Reached batch (seen_past seen code bytes) (past_at batch at)
+    reached_past =
         record {
           before = r.before ++ (command_at batch at ∷ []);
           along = goes_on batch at r.before r.along here on.0 on.2;
-          bounded = bounded-next code bytes r.before on.0 r.bounded;
+          bounded = bounded_next code bytes r.before on.0 r.bounded;
           seen_is = seen_next;
         }
 
-    pub reached-next : Reached batch (seen_past seen k bytes) (at + 1 + width k)
-    reached-next = rw on.1 at reached-past
+    pub reached_next : Reached batch (seen_past seen k bytes) (at + 1 + width k)
+    reached_next = rw on.1 at reached_past

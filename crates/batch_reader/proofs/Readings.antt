@@ -74,9 +74,9 @@ module _ (batch : List ℕ) (at : ℕ) (before : List Command) (a : Along batch 
 -- what holds before the commands and is kept by each holds of all
 module _ (P : List Command → Type 0)
     (keep : (before : List Command) (code : ℕ) (bytes : List ℕ) → fault (seen_in before) code bytes ≡ Done → P before → P (before ++ (record { code = code; operand = take (width code) bytes } ∷ []))) where
-  read-or : (last : Bool) (before ks : List Command) (next : Reading) → cond last (read before) next ≡ read ks → P before → (next ≡ read ks → P ks) → P ks
-  read-or true before ks next e p h = let q : before ≡ ks = cc in rw q at p
-  read-or false before ks next e p h = h e
+  read_or : (last : Bool) (before ks : List Command) (next : Reading) → cond last (read before) next ≡ read ks → P before → (next ≡ read ks → P ks) → P ks
+  read_or true before ks next e p h = let q : before ≡ ks = cc in rw q at p
+  read_or false before ks next e p h = h e
 
   pub kept : (n : ℕ) (before : List Command) (bytes : List ℕ) (ks : List Command) → P before → read_from n before bytes ≡ read ks → P ks
   unfolding read_from
@@ -84,4 +84,4 @@ module _ (P : List Command → Type 0)
   kept (suc n) before [] ks p e = let z : ◌≡◌ {A = ℕ} 0 1 = cc in let none : ⊥ = omega arith in absurd none
   kept (suc n) before (code ∷ bytes) ks p e =
       let passed = of_unless (fault (seen_in before) code bytes) _ ks e in
-      read-or (eqb code END) before ks _ passed.1 p (kept n (before ++ (record { code = code; operand = take (width code) bytes } ∷ [])) (drop (width code) bytes) ks (keep before code bytes passed.0 p))
+      read_or (eqb code END) before ks _ passed.1 p (kept n (before ++ (record { code = code; operand = take (width code) bytes } ∷ [])) (drop (width code) bytes) ks (keep before code bytes passed.0 p))

@@ -88,13 +88,13 @@ module _ (batch : List ℕ) (wanted : ℕ) (opened : reading batch ≡ read (com
   abbrev ks : List Command
   ks = commands_of (reading batch)
 
-  is-laid : Laid batch ks
-  is-laid = laid batch ks opened
+  is_laid : Laid batch ks
+  is_laid = laid batch ks opened
 
   pub begins : (form : Form) (slice : List ℕ) (at : ℕ) → at ≡ bytes_below (rank wanted) ks → Section batch wanted form slice slice 0 at
   begins form slice at e =
       let s = split (rank wanted) 0 0 ks (ordered batch ks opened) in
-      let whole = all_whole [] s.low (faultless_parts [] s.low s.high (rw s.parts at is-laid.faultless)).0 in
+      let whole = all_whole [] s.low (faultless_parts [] s.low s.high (rw s.parts at is_laid.faultless)).0 in
       let none = none_brought wanted s.low (every_map _ _ (λ k l q. let z = ap rank q in omega arith) s.low s.low_ranks) in
       record {
         before = s.low;
@@ -109,45 +109,45 @@ module _ (batch : List ℕ) (wanted : ℕ) (opened : reading batch ≡ read (com
       }
 
   -- the bytes from a place on
-  bytes-there : (before after : List Command) → ks ≡ before ++ after → drop (length (laid_out before)) batch ≡ laid_out after ++ (END ∷ [])
-  bytes-there before after e =
-      let b : batch ≡ laid_out before ++ (laid_out after ++ (END ∷ [])) = is-laid.is ∙ rw (e, laid_append before after, append_assoc) in
+  bytes_there : (before after : List Command) → ks ≡ before ++ after → drop (length (laid_out before)) batch ≡ laid_out after ++ (END ∷ [])
+  bytes_there before after e =
+      let b : batch ≡ laid_out before ++ (laid_out after ++ (END ∷ [])) = is_laid.is ∙ rw (e, laid_append before after, append_assoc) in
       ap (drop (length (laid_out before))) b ∙ drop-append_seam (laid_out before) (laid_out after ++ (END ∷ []))
 
   module _ (form : Form) (slice₀ slice : List ℕ) (to at : ℕ) (s : Section batch wanted form slice₀ slice to at) where
     there : (after : List Command) → s.after ≡ after → drop at batch ≡ laid_out after ++ (END ∷ [])
-    there after e = rw (s.place, sym e) (bytes-there s.before s.after s.parts)
+    there after e = rw (s.place, sym e) (bytes_there s.before s.after s.parts)
 
-    code-there : (b : ℕ) (rest : List ℕ) → drop at batch ≡ b ∷ rest → get_or batch at 0 ≡ b
-    code-there b rest e = ap (λ n. get_or batch n 0) (sym (add-zero at)) ∙ sym (get_or-drop at batch 0 0) ∙ ap (λ l. get_or l 0 0) e
+    code_there : (b : ℕ) (rest : List ℕ) → drop at batch ≡ b ∷ rest → get_or batch at 0 ≡ b
+    code_there b rest e = ap (λ n. get_or batch n 0) (sym (add-zero at)) ∙ sym (get_or-drop at batch 0 0) ∙ ap (λ l. get_or l 0 0) e
 
     -- the command of the wanted kind that stands there, and what follows it
     record Here : Type 0 where
       k : Command
       rest : List Command
       is : s.after ≡ k ∷ rest
-      of-kind : k.code ≡ wanted
+      of_kind : k.code ≡ wanted
 
-    here-by : (after : List Command) → s.after ≡ after → get_or batch at 0 ≡ wanted → Here
+    here_by : (after : List Command) → s.after ≡ after → get_or batch at 0 ≡ wanted → Here
     unfolding laid_out
-    here-by [] e q =
-        let z = code-there END [] (there [] e) in
+    here_by [] e q =
+        let z = code_there END [] (there [] e) in
         let none : ⊥ = omega arith in
         absurd none
-    here-by (k ∷ rest) e q = record { k = k; rest = rest; is = e; of-kind = sym (code-there k.code (k.operand ++ laid_out rest ++ (END ∷ [])) (there (k ∷ rest) e ∙ rw append_assoc)) ∙ q }
+    here_by (k ∷ rest) e q = record { k = k; rest = rest; is = e; of_kind = sym (code_there k.code (k.operand ++ laid_out rest ++ (END ∷ [])) (there (k ∷ rest) e ∙ rw append_assoc)) ∙ q }
 
     module _ (q : get_or batch at 0 ≡ wanted) where
       here : Here
-      here = here-by s.after refl q
+      here = here_by s.after refl q
 
       parts-on : ks ≡ (s.before ++ (here.k ∷ [])) ++ here.rest
       parts-on = s.parts ∙ ap (◌++◌ s.before) here.is ∙ sym (append_assoc s.before (here.k ∷ []) here.rest)
 
       k-next : Next s.before here.k
-      k-next = (faultless_parts [] s.before (here.k ∷ here.rest) (rw here.is at (rw s.parts at is-laid.faultless))).1.0
+      k-next = (faultless_parts [] s.before (here.k ∷ here.rest) (rw here.is at (rw s.parts at is_laid.faultless))).1.0
 
       k-whole : length here.k.operand ≡ width wanted
-      k-whole = rw here.of-kind at k-next.whole
+      k-whole = rw here.of_kind at k-next.whole
 
       operand-there : drop (at + 1) batch ≡ here.k.operand ++ (laid_out here.rest ++ (END ∷ []))
       unfolding laid_out
@@ -161,7 +161,7 @@ module _ (batch : List ℕ) (wanted : ℕ) (opened : reading batch ≡ read (com
       brought-there : words_in wanted (drop (at + 1) batch) ≡ contents wanted (here.k ∷ [])
       brought-there =
           let t : take (width wanted) (drop (at + 1) batch) ≡ here.k.operand = rw operand-there (take_at here.k.operand _ (width wanted) k-whole) in
-          sym (words_within_operand wanted (drop (at + 1) batch) known) ∙ ap (words_in wanted) t ∙ sym (one_brought wanted here.k here.of-kind)
+          sym (words_within_operand wanted (drop (at + 1) batch) known) ∙ ap (words_in wanted) t ∙ sym (one_brought wanted here.k here.of_kind)
 
       brought-on : contents wanted (s.before ++ (here.k ∷ [])) ≡ contents wanted s.before ++ words_in wanted (drop (at + 1) batch)
       brought-on = contents_append wanted s.before (here.k ∷ []) ∙ ap (◌++◌ (contents wanted s.before)) (sym brought-there)
@@ -186,7 +186,7 @@ module _ (batch : List ℕ) (wanted : ℕ) (opened : reading batch ≡ read (com
             after = here.rest;
             parts = parts-on;
             place = rw (laid_append, length-append) (omega (arith, s.place, laid_one));
-            low = every_append _ s.before (here.k ∷ []) s.low (let z = ap rank here.of-kind in omega arith, tt);
+            low = every_append _ s.before (here.k ∷ []) s.low (let z = ap rank here.of_kind in omega arith, tt);
             high = (rw here.is at s.high).1;
             same_length = l ∙ s.same_length;
             filled = e ∙ ap (λ l. take to slice ++ plain form l ++ drop (to + width wanted / 8) slice) (sym (all_words wanted (drop (at + 1) batch))) ∙ ap (λ m. take to slice ++ plain form ws ++ drop (to + m) slice) (sym (length-plain form ws ∙ n))
@@ -200,9 +200,9 @@ module _ (batch : List ℕ) (wanted : ℕ) (opened : reading batch ≡ read (com
     unfolding laid_out
     past_by used [] e q = tt
     past_by used (k ∷ rest) e q =
-        let code : get_or batch at 0 ≡ k.code = code-there k.code (k.operand ++ laid_out rest ++ (END ∷ [])) (there (k ∷ rest) e ∙ rw append_assoc) in
+        let code : get_or batch at 0 ≡ k.code = code_there k.code (k.operand ++ laid_out rest ++ (END ∷ [])) (there (k ∷ rest) e ∙ rw append_assoc) in
         let ps : ks ≡ s.before ++ (k ∷ rest) = rw e at s.parts in
-        let next = (faultless_parts [] s.before (k ∷ rest) (rw ps at is-laid.faultless)).1.0 in
+        let next = (faultless_parts [] s.before (k ∷ rest) (rw ps at is_laid.faultless)).1.0 in
         let from = (rw e at s.high).0 in
         let in-form = every_at _ s.before k rest (subst (Every (λ j. OfForm (form_of ks) j.code)) ps (of_form batch ks opened)) in
         let other : rank wanted ≡ rank k.code → ⊥ = λ z. q (code ∙ sym (rank_injective (form_of ks) wanted k.code known next.passes.known used in-form z)) in
@@ -213,14 +213,14 @@ module _ (batch : List ℕ) (wanted : ℕ) (opened : reading batch ≡ read (com
     pub ends : OfForm (form_of ks) wanted → (get_or batch at 0 ≡ wanted → ⊥) → (at ≡ bytes_below (rank wanted + 1) ks) × (slice ≡ written (plain form (contents wanted ks)) slice₀)
     ends used q =
         let past = past_by used s.after refl q in
-        let whole = all_whole [] s.before (faultless_parts [] s.before s.after (rw s.parts at is-laid.faultless)).0 in
+        let whole = all_whole [] s.before (faultless_parts [] s.before s.after (rw s.parts at is_laid.faultless)).0 in
         let none = none_brought wanted s.after (every_map _ _ (λ k l z. let r = ap rank z in omega arith) s.after past) in
         let bytes : bytes_below (rank wanted + 1) ks ≡ length (laid_out s.before) = ap (bytes_below (rank wanted + 1)) s.parts ∙ below_append (rank wanted + 1) s.before s.after ∙ rw (below_none (rank wanted + 1) s.after past, add-zero) (below_all (rank wanted + 1) s.before whole s.low) in
         let all : contents wanted ks ≡ contents wanted s.before = ap (contents wanted) s.parts ∙ contents_append wanted s.before s.after ∙ rw (none, append-nil) in
         (s.place ∙ sym bytes, s.filled ∙ ap (λ l. written (plain form l) slice₀) (sym all))
 
-    pub not-at-end : length batch ≤ at → ⊥
-    not-at-end h =
+    pub not_at_end : length batch ≤ at → ⊥
+    not_at_end h =
         let n = ap length (there s.after refl) ∙ length-append (laid_out s.after) (END ∷ []) in
         omega (arith, n, length-drop at batch)
 
@@ -232,24 +232,24 @@ module _ (batch : List ℕ) (opened : reading batch ≡ read (commands_of (readi
   abbrev section : Section batch MONTGOMERY-ROW Plain [] [] 0 at
   section = begins batch MONTGOMERY-ROW opened (lit< tt) (lit< tt) Plain [] at place
 
-  pub rows-there : length batch ≤ at → ⊥
-  rows-there = not-at-end batch MONTGOMERY-ROW opened (lit< tt) (lit< tt) Plain [] [] 0 at section
+  pub rows_there : length batch ≤ at → ⊥
+  rows_there = not_at_end batch MONTGOMERY-ROW opened (lit< tt) (lit< tt) Plain [] [] 0 at section
 
-  form-by : (none : Bool) → eqb (count MONTGOMERY-ROW all) 0 ≡ none → (get_or batch at 0 ≡ MONTGOMERY-ROW → ⊥) → cond none Plain Montgomery ≡ Plain
-  form-by true e q = refl
-  form-by false e q =
+  form_by : (none : Bool) → eqb (count MONTGOMERY-ROW all) 0 ≡ none → (get_or batch at 0 ≡ MONTGOMERY-ROW → ⊥) → cond none Plain Montgomery ≡ Plain
+  form_by true e q = refl
+  form_by false e q =
       let is : form_of all ≡ Montgomery = rw e in
       let done = ends batch MONTGOMERY-ROW opened (lit< tt) (lit< tt) Plain [] [] 0 at section (rw is (λ z. omega arith)) q in
       let none = ap length done.1 ∙ length-append (contents MONTGOMERY-ROW all) (drop (length (contents MONTGOMERY-ROW all)) []) in
       absurd (eqb-false (count MONTGOMERY-ROW all) 0 e (omega (arith, none, length-contents MONTGOMERY-ROW all)))
 
-  pub plain-there : (get_or batch at 0 ≡ MONTGOMERY-ROW → ⊥) → form_of all ≡ Plain
-  plain-there q = form-by (eqb (count MONTGOMERY-ROW all) 0) refl q
+  pub plain_there : (get_or batch at 0 ≡ MONTGOMERY-ROW → ⊥) → form_of all ≡ Plain
+  plain_there q = form_by (eqb (count MONTGOMERY-ROW all) 0) refl q
 
-  pub montgomery-there : get_or batch at 0 ≡ MONTGOMERY-ROW → form_of all ≡ Montgomery
-  montgomery-there q =
+  pub montgomery_there : get_or batch at 0 ≡ MONTGOMERY-ROW → form_of all ≡ Montgomery
+  montgomery_there q =
       let h = here batch MONTGOMERY-ROW opened (lit< tt) (lit< tt) Plain [] [] 0 at section q in
-      let some = count_past MONTGOMERY-ROW section.before h.k h.rest h.of-kind in
+      let some = count_past MONTGOMERY-ROW section.before h.k h.rest h.of_kind in
       let parts : all ≡ section.before ++ (h.k ∷ h.rest) = section.parts ∙ ap (◌++◌ section.before) h.is in
       rw (ne_eqb (count MONTGOMERY-ROW all) 0 (λ z. omega (arith, some, ap (count MONTGOMERY-ROW) parts)))
 

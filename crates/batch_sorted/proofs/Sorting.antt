@@ -14,9 +14,9 @@ unfolding sorted
 none_yet list room = rw (sub_self (length list), drop-length list)
 
 module _ (list room part rest : List ℕ) (i : ℕ) (inside : i < length list) (fits : length list ≤ length room) where
-  sorted-from : sorted (drop i list) ≡ inserted (get_or list i 0) (sorted (drop (suc i) list))
+  sorted_from : sorted (drop i list) ≡ inserted (get_or list i 0) (sorted (drop (suc i) list))
   unfolding sorted
-  sorted-from = ap sorted (drop-cons list i 0 inside)
+  sorted_from = ap sorted (drop-cons list i 0 inside)
 
   later : drop 1 (take (length list - i) (drop i room)) ≡ take (length list - suc i) (drop (suc i) room)
   later =
@@ -26,6 +26,6 @@ module _ (list room part rest : List ℕ) (i : ℕ) (inside : i < length list) (
   pub one_more : (next : ℕ) → next ≡ suc i → take (length list - next) (drop next room) ≡ sorted (drop next list) → part ≡ inserted (get_or list i 0) (drop 1 (take (length list - i) (drop i room)))
       → take (length list - i) (drop i (take i room ++ (part ++ rest))) ≡ sorted (drop i list)
   one_more next n before e =
-      let all : part ≡ sorted (drop i list) = e ∙ ap (inserted (get_or list i 0)) (later ∙ (rw n at before)) ∙ sym sorted-from in
+      let all : part ≡ sorted (drop i list) = e ∙ ap (inserted (get_or list i 0)) (later ∙ (rw n at before)) ∙ sym sorted_from in
       let long : length part ≡ length list - i = ap length all ∙ length-sorted (drop i list) ∙ length-drop i list in
       ap (take (length list - i)) (drop_at (take i room) (part ++ rest) i (length-take-le i room (omega arith))) ∙ take_at part rest (length list - i) long ∙ all

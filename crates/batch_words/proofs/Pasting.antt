@@ -29,8 +29,8 @@ module _ (batch : List ℕ) (at : ℕ) (bs : List ℕ) (fits : at + length bs �
   length-pasted = omega (arith, length-append (take at batch ++ bs) (drop (at + length bs) batch), front, length-drop (at + length bs) batch)
 
   -- bytes behind these
-  pub pasted-on : (to : ℕ) (cs : List ℕ) → to ≡ at + length bs → pasted (pasted batch at bs) to cs ≡ pasted batch at (bs ++ cs)
-  pasted-on to cs e =
+  pub pasted_on : (to : ℕ) (cs : List ℕ) → to ≡ at + length bs → pasted (pasted batch at bs) to cs ≡ pasted batch at (bs ++ cs)
+  pasted_on to cs e =
       let head = take at batch ++ bs in
       let tail = drop (at + length bs) batch in
       let long : length head ≡ to = front ∙ sym e in
@@ -42,7 +42,7 @@ module _ (batch : List ℕ) (at : ℕ) (bs : List ℕ) (fits : at + length bs �
 
 -- bytes behind one that was stored
 pub stored_on : (batch : List ℕ) (at b : ℕ) (bs : List ℕ) → at + 1 + length bs ≤ length batch → pasted (set batch at b) (at + 1) bs ≡ pasted batch at (b ∷ bs)
-stored_on batch at b bs fits = ap (λ l. pasted l (at + 1) bs) (stored batch at b [] (omega arith)) ∙ pasted-on batch at (b ∷ []) (omega arith) (at + 1) bs refl
+stored_on batch at b bs fits = ap (λ l. pasted l (at + 1) bs) (stored batch at b [] (omega arith)) ∙ pasted_on batch at (b ∷ []) (omega arith) (at + 1) bs refl
 
 -- no bytes
 pub pasted_none : (batch : List ℕ) (at : ℕ) → batch ≡ pasted batch at []

@@ -13,7 +13,7 @@ use Rattle.field_base.specs.Words.{all_below}
 use Rattle.field_base.proofs.Below.{word_below}
 use Rattle.batch_words.specs.Words.{number, words, little_endian, bytes_of}
 use Rattle.batch_words.specs.Pasted.{pasted}
-use Rattle.batch_words.proofs.Pasting.{pasted-on}
+use Rattle.batch_words.proofs.Pasting.{pasted_on}
 
 pub length-little_endian : (n w : ℕ) → length (little_endian n w) ≡ n
 unfolding little_endian
@@ -84,4 +84,4 @@ pub word_on : (batch : List ℕ) (at : ℕ) (ws : List ℕ) (i : ℕ) → i < le
     → pasted (pasted batch at (bytes_of (take i ws))) (at + 8 * i) (little_endian 8 (get_or ws i 0)) ≡ pasted batch at (bytes_of (take (i + 1) ws))
 word_on batch at ws i h fits =
     let long = length-bytes_of_take ws i (omega arith) in
-    pasted-on batch at (bytes_of (take i ws)) (omega (arith, long)) (at + 8 * i) (little_endian 8 (get_or ws i 0)) (omega (arith, long)) ∙ ap (pasted batch at) (sym (bytes_of-next ws i h))
+    pasted_on batch at (bytes_of (take i ws)) (omega (arith, long)) (at + 8 * i) (little_endian 8 (get_or ws i 0)) (omega (arith, long)) ∙ ap (pasted batch at) (sym (bytes_of-next ws i h))

@@ -24,8 +24,8 @@ module _ (form : Form) (c : Contents) (n : ℕ) where
   unfolding write_answer
   refused {r} h = sym ((refused_exactly (write_tests form c n) r).1 h)
 
-  pub wrong-lengths : right_lengths form c n ≡ false → Refused SliceLength ≡ write_answer form c n
-  wrong-lengths e = refused (inl (ap not e, refl))
+  pub wrong_lengths : right_lengths form c n ≡ false → Refused SliceLength ≡ write_answer form c n
+  wrong_lengths e = refused (inl (ap not e, refl))
 
   module _ (right : right_lengths form c n ≡ true) where
     pub no_rows : rows c.trace < 1 → Refused RowCount ≡ write_answer form c n
@@ -55,6 +55,6 @@ module _ (form : Form) (c : Contents) (batch : List ℕ) where
   unfolding write_batch
   as_it_was e = ap (λ a. on_done a (batch_of form c) batch) e
 
-  pub the-batch : Done ≡ write_answer form c (length batch) → batch_of form c ≡ write_batch form c batch
+  pub the_batch : Done ≡ write_answer form c (length batch) → batch_of form c ≡ write_batch form c batch
   unfolding write_batch
-  the-batch e = ap (λ a. on_done a (batch_of form c) batch) e
+  the_batch e = ap (λ a. on_done a (batch_of form c) batch) e

@@ -38,13 +38,13 @@ module _ (c : Contents) where
       let e₂ = and-true t₁ (all_below c.op_stack) e₃.0 in
       record { trace = e₂.0; op_stack = e₂.1; ram = e₃.1; jump_stack = e₄.1; sampled = e₅.1; digest = e₆.1; input = e₇.1; output = e₈.1 }
 
-  refused-by : (t : Bool) → all_words_below c ≡ t → (Below c → ⊥) → false ≡ t
-  refused-by true e h = absurd (h (below e))
-  refused-by false e h = refl
+  refused_by : (t : Bool) → all_words_below c ≡ t → (Below c → ⊥) → false ≡ t
+  refused_by true e h = absurd (h (below e))
+  refused_by false e h = refl
 
   -- a list that fails
-  pub not-all : (Below c → ⊥) → false ≡ all_words_below c
-  not-all h = refused-by (all_words_below c) refl h
+  pub not_all : (Below c → ⊥) → false ≡ all_words_below c
+  not_all h = refused_by (all_words_below c) refl h
 
 -- a test that came out false, of a list that holds
 pub clash : (result t : Bool) → result ≡ t → not result ≡ true → t ≡ true → ⊥

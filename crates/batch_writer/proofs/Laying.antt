@@ -42,19 +42,19 @@ height_bytes k = cond (eqb k 0) [] (HEIGHT ∷ little_endian 1 k)
 
 pub laid_height : (k : ℕ) → laid_out (commands_of_height k) ≡ height_bytes k
 unfolding laid_out commands_of_height little_endian
-laid_height k = by-test (eqb k 0)
+laid_height k = by_test (eqb k 0)
   where
-    by-test : (none : Bool) → laid_out (cond none [] (record { code = HEIGHT; operand = little_endian 1 k } ∷ [])) ≡ cond none [] (HEIGHT ∷ little_endian 1 k)
-    by-test true = refl
-    by-test false = refl
+    by_test : (none : Bool) → laid_out (cond none [] (record { code = HEIGHT; operand = little_endian 1 k } ∷ [])) ≡ cond none [] (HEIGHT ∷ little_endian 1 k)
+    by_test true = refl
+    by_test false = refl
 
 pub length-height : (k : ℕ) → length (laid_out (commands_of_height k)) ≡ height_length k
 unfolding little_endian
-length-height k = ap length (laid_height k) ∙ by-test (eqb k 0)
+length-height k = ap length (laid_height k) ∙ by_test (eqb k 0)
   where
-    by-test : (none : Bool) → length (cond none [] (HEIGHT ∷ little_endian 1 k)) ≡ cond none 0 2
-    by-test true = refl
-    by-test false = refl
+    by_test : (none : Bool) → length (cond none [] (HEIGHT ∷ little_endian 1 k)) ≡ cond none 0 2
+    by_test true = refl
+    by_test false = refl
 
 -- rows in either form
 pub length-laid_rows : (form : Form) (n : ℕ) (ws : List ℕ) → n * (width ROW / 8) ≤ length ws → length (laid_out (commands_with n (row_command form) (in_form form ws))) ≡ n * (1 + width ROW)

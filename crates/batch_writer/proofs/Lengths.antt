@@ -11,7 +11,7 @@ use Rattle.batch_writer.specs.Contents.{Contents}
 use Rattle.batch_writer.specs.Layout.{batch_of}
 use Rattle.batch_lengths.specs.Lengths.{batch_length, right_numbers}
 use Rattle.batch_writer.specs.Write.{right_lengths}
-use Rattle.batch_writer.proofs.Parts.{length-batchOf}
+use Rattle.batch_writer.proofs.Parts.{length-batch_of}
 
 and_same : (a b b' : Bool) → (a ≡ true → b ≡ b') → (a && b) ≡ (a && b')
 and_same true b b' h = h refl
@@ -29,8 +29,8 @@ pub record Right (c : Contents) (batch : ℕ) : Type 0 where
   pub batch_length : batch ≡ batch_length c.log2_height (length c.trace / 39) (length c.op_stack + length c.ram + length c.jump_stack + length c.input + length c.output)
 
 module _ (c : Contents) where
-  abbrev first-seven : Bool
-  first-seven =
+  abbrev first_seven : Bool
+  first_seven =
       eqb (length c.trace % 39) 0
       && leb (length c.op_stack) 128
       && leb (length c.ram) 128
@@ -39,14 +39,14 @@ module _ (c : Contents) where
       && eqb (length c.digest) 5
       && leb (length c.input) 64
 
-  abbrev all-lists : Bool
-  all-lists = first-seven && leb (length c.output) 64
+  abbrev all_lists : Bool
+  all_lists = first_seven && leb (length c.output) 64
 
   abbrev number : ℕ
   number = batch_length c.log2_height (length c.trace / 39) (length c.op_stack + length c.ram + length c.jump_stack + length c.input + length c.output)
 
   -- where the lists are as they should be
-  lists : all-lists ≡ true → Right c number
+  lists : all_lists ≡ true → Right c number
   lists all =
       let t₁ = eqb (length c.trace % 39) 0 in
       let t₂ = t₁ && leb (length c.op_stack) 128 in
@@ -54,7 +54,7 @@ module _ (c : Contents) where
       let t₄ = t₃ && leb (length c.jump_stack) 128 in
       let t₅ = t₄ && eqb (length c.sampled) 177 in
       let t₆ = t₅ && eqb (length c.digest) 5 in
-      let e₈ = and-true first-seven (leb (length c.output) 64) all in
+      let e₈ = and-true first_seven (leb (length c.output) 64) all in
       let e₇ = and-true t₆ (leb (length c.input) 64) e₈.0 in
       let e₆ = and-true t₅ (eqb (length c.digest) 5) e₇.0 in
       let e₅ = and-true t₄ (eqb (length c.sampled) 177) e₆.0 in
@@ -74,21 +74,21 @@ module _ (c : Contents) where
       }
 
   is_number : (form : Form) {batch : ℕ} → Right c batch → length (batch_of form c) ≡ number
-  is_number form l = length-batchOf form c l.whole l.sampled l.digest
+  is_number form l = length-batch_of form c l.whole l.sampled l.digest
 
   module _ (form : Form) (batch : ℕ) where
-    in-tests : right_lengths form c batch ≡ (all-lists && eqb batch (length (batch_of form c)))
+    in_tests : right_lengths form c batch ≡ (all_lists && eqb batch (length (batch_of form c)))
     unfolding right_lengths
-    in-tests = refl
+    in_tests = refl
 
-    pub by-numbers : right_lengths form c batch ≡ right_numbers (length c.trace) (length c.op_stack) (length c.ram) (length c.jump_stack) (length c.sampled) (length c.digest) (length c.input) (length c.output) c.log2_height batch
-    by-numbers = in-tests ∙ and_same all-lists (eqb batch (length (batch_of form c))) (eqb batch number) (λ all. ap (eqb batch) (is_number form (lists all)))
+    pub by_numbers : right_lengths form c batch ≡ right_numbers (length c.trace) (length c.op_stack) (length c.ram) (length c.jump_stack) (length c.sampled) (length c.digest) (length c.input) (length c.output) c.log2_height batch
+    by_numbers = in_tests ∙ and_same all_lists (eqb batch (length (batch_of form c))) (eqb batch number) (λ all. ap (eqb batch) (is_number form (lists all)))
 
     pub right : right_lengths form c batch ≡ true → Right c batch
     right all =
-        let e = and-true all-lists (eqb batch (length (batch_of form c))) (sym in-tests ∙ all) in
+        let e = and-true all_lists (eqb batch (length (batch_of form c))) (sym in_tests ∙ all) in
         let l = lists e.0 in
         rw (eqb-true batch (length (batch_of form c)) e.1 ∙ is_number form l) l
 
     pub all_right : Right c batch → true ≡ right_lengths form c batch
-    all_right r = sym (by-numbers ∙ rw (eq-eqb _ 0 r.whole, le-leb _ 128 r.op_stack, le-leb _ 128 r.ram, le-leb _ 128 r.jump_stack, eq-eqb _ 177 r.sampled, eq-eqb _ 5 r.digest, le-leb _ 64 r.input, le-leb _ 64 r.output, eq-eqb batch number r.batch_length))
+    all_right r = sym (by_numbers ∙ rw (eq-eqb _ 0 r.whole, le-leb _ 128 r.op_stack, le-leb _ 128 r.ram, le-leb _ 128 r.jump_stack, eq-eqb _ 177 r.sampled, eq-eqb _ 5 r.digest, le-leb _ 64 r.input, le-leb _ 64 r.output, eq-eqb batch number r.batch_length))

@@ -53,50 +53,50 @@ module _ (form : Form) (c : Contents) where
       ++ commands_with (length c.jump_stack) JUMP-STACK (sorted c.jump_stack)
       ++ (last ∷ [])
 
-  as-commands : batch_of form c ≡ laid_out commands
+  as_commands : batch_of form c ≡ laid_out commands
   unfolding batch_of
-  as-commands = refl
+  as_commands = refl
 
   -- up to the last command of a kind
-  abbrev pub upTo01 : List ℕ
-  upTo01 = TRACE-ROWS ∷ little_endian 4 (rows c.trace)
+  abbrev pub up_to01 : List ℕ
+  up_to01 = TRACE-ROWS ∷ little_endian 4 (rows c.trace)
 
-  abbrev pub upTo0B : List ℕ
-  upTo0B = upTo01 ++ laid_out (commands_of_height c.log2_height)
+  abbrev pub up_to0_b : List ℕ
+  up_to0_b = up_to01 ++ laid_out (commands_of_height c.log2_height)
 
-  abbrev pub upTo07 : List ℕ
-  upTo07 = upTo0B ++ kind 1 DIGEST c.digest
+  abbrev pub up_to07 : List ℕ
+  up_to07 = up_to0_b ++ kind 1 DIGEST c.digest
 
-  abbrev pub upTo08 : List ℕ
-  upTo08 = upTo07 ++ kind (length c.input) INPUT c.input
+  abbrev pub up_to08 : List ℕ
+  up_to08 = up_to07 ++ kind (length c.input) INPUT c.input
 
-  abbrev pub upTo09 : List ℕ
-  upTo09 = upTo08 ++ kind (length c.output) OUTPUT c.output
+  abbrev pub up_to09 : List ℕ
+  up_to09 = up_to08 ++ kind (length c.output) OUTPUT c.output
 
-  abbrev pub upTo06 : List ℕ
-  upTo06 = upTo09 ++ kind 1 SAMPLED c.sampled
+  abbrev pub up_to06 : List ℕ
+  up_to06 = up_to09 ++ kind 1 SAMPLED c.sampled
 
-  abbrev pub upTo02 : List ℕ
-  upTo02 = upTo06 ++ kind (rows c.trace) (row_command form) (in_form form c.trace)
+  abbrev pub up_to02 : List ℕ
+  up_to02 = up_to06 ++ kind (rows c.trace) (row_command form) (in_form form c.trace)
 
-  abbrev pub upTo03 : List ℕ
-  upTo03 = upTo02 ++ kind (length c.op_stack) OP-STACK (sorted c.op_stack)
+  abbrev pub up_to03 : List ℕ
+  up_to03 = up_to02 ++ kind (length c.op_stack) OP-STACK (sorted c.op_stack)
 
-  abbrev pub upTo04 : List ℕ
-  upTo04 = upTo03 ++ kind (length c.ram) RAM (sorted c.ram)
+  abbrev pub up_to04 : List ℕ
+  up_to04 = up_to03 ++ kind (length c.ram) RAM (sorted c.ram)
 
-  abbrev pub upTo05 : List ℕ
-  upTo05 = upTo04 ++ kind (length c.jump_stack) JUMP-STACK (sorted c.jump_stack)
+  abbrev pub up_to05 : List ℕ
+  up_to05 = up_to04 ++ kind (length c.jump_stack) JUMP-STACK (sorted c.jump_stack)
 
-  pub in_parts : batch_of form c ≡ upTo05 ++ (END ∷ [])
+  pub in_parts : batch_of form c ≡ up_to05 ++ (END ∷ [])
   in_parts =
-      as-commands
+      as_commands
       ∙ laid_all (first ∷ []) (commands_of_height c.log2_height) (commands_with 1 DIGEST c.digest) (commands_with (length c.input) INPUT c.input) (commands_with (length c.output) OUTPUT c.output) (commands_with 1 SAMPLED c.sampled) (commands_with (rows c.trace) (row_command form) (in_form form c.trace)) (commands_with (length c.op_stack) OP-STACK (sorted c.op_stack)) (commands_with (length c.ram) RAM (sorted c.ram)) (commands_with (length c.jump_stack) JUMP-STACK (sorted c.jump_stack)) (last ∷ [])
       ∙ rw (single first, single last)
 
-  pub length-batchOf : length c.trace % 39 ≡ 0 → length c.sampled ≡ 177 → length c.digest ≡ 5
+  pub length-batch_of : length c.trace % 39 ≡ 0 → length c.sampled ≡ 177 → length c.digest ≡ 5
       → length (batch_of form c) ≡ batch_length c.log2_height (rows c.trace) (length c.op_stack + length c.ram + length c.jump_stack + length c.input + length c.output)
-  length-batchOf whole sampled digest =
+  length-batch_of whole sampled digest =
       ap length in_parts
       ∙ length-all (TRACE-ROWS ∷ little_endian 4 (rows c.trace)) (laid_out (commands_of_height c.log2_height)) (kind 1 DIGEST c.digest) (kind (length c.input) INPUT c.input) (kind (length c.output) OUTPUT c.output) (kind 1 SAMPLED c.sampled) (kind (rows c.trace) (row_command form) (in_form form c.trace)) (kind (length c.op_stack) OP-STACK (sorted c.op_stack)) (kind (length c.ram) RAM (sorted c.ram)) (kind (length c.jump_stack) JUMP-STACK (sorted c.jump_stack)) (END ∷ [])
       ∙ omega (

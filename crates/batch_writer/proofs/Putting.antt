@@ -9,7 +9,7 @@ use lib.Seq.{drop-drop, length-take-le}
 use Rattle.batch_words.specs.Words.{bytes_of}
 use Rattle.batch_words.specs.Pasted.{pasted}
 use Rattle.batch_words.proofs.Writing.{length-bytes_of}
-use Rattle.batch_words.proofs.Pasting.{pasted_none, pasted-on}
+use Rattle.batch_words.proofs.Pasting.{pasted_none, pasted_on}
 use Rattle.batch_commands.specs.Format.{width, laid_out}
 use Rattle.batch_writer.specs.Layout.{commands_with}
 use Rattle.batch_writer.proofs.Laying.{laid_next, laid_none, length-laid}
@@ -32,8 +32,8 @@ one_fewer left k h =
     ap (λ m. m * k) e ∙ suc-mul (left - 1) k
 
 module _ (batch₀ : List ℕ) (at code : ℕ) (words : List ℕ) (n each : ℕ) where
-  pub none-put : width code % 8 ≡ 0 → each ≡ width code / 8 → n * (width code / 8) ≤ length words → at + n * (1 + width code) ≤ length batch₀ → Putting batch₀ at code words n each batch₀ at 0 n
-  none-put whole e enough room =
+  pub none_put : width code % 8 ≡ 0 → each ≡ width code / 8 → n * (width code / 8) ≤ length words → at + n * (1 + width code) ≤ length batch₀ → Putting batch₀ at code words n each batch₀ at 0 n
+  none_put whole e enough room =
       let operand : width code ≡ 8 * each = omega arith in
       record {
         operand = operand;
@@ -50,9 +50,9 @@ module _ (batch₀ : List ℕ) (at code : ℕ) (words : List ℕ) (n each : ℕ)
   next left from k = laid_next left code (drop from words) ∙ rw (k, drop-drop each from words)
 
   module _ (batch : List ℕ) (to from left : ℕ) (p : Putting batch₀ at code words n each batch to from left) where
-    pub one-put : 0 < left → (batch' : List ℕ) → length batch' ≡ length batch → batch' ≡ pasted batch to (code ∷ bytes_of (take (from + each - from) (drop from words)))
+    pub one_put : 0 < left → (batch' : List ℕ) → length batch' ≡ length batch → batch' ≡ pasted batch to (code ∷ bytes_of (take (from + each - from) (drop from words)))
         → Putting batch₀ at code words n each batch' (to + 1 + 8 * each) (from + each) (left - 1)
-    one-put h batch' l e =
+    one_put h batch' l e =
         let k : width code / 8 ≡ each = omega (arith, p.operand) in
         let some : left ≡ suc (left - 1) = omega arith in
         let len : from + each - from ≡ each = omega arith in
@@ -64,7 +64,7 @@ module _ (batch₀ : List ℕ) (at code : ℕ) (words : List ℕ) (n each : ℕ)
           done = p.done ++ command;
           same_length = l ∙ p.same_length;
           reached = omega (arith, p.reached, length-append p.done command, long);
-          so_far = e ∙ rw (len, p.so_far) (pasted-on batch₀ at p.done (omega (arith, p.reached, p.room)) to command p.reached);
+          so_far = e ∙ rw (len, p.so_far) (pasted_on batch₀ at p.done (omega (arith, p.reached, p.room)) to command p.reached);
           rest = p.rest ∙ ap (λ m. p.done ++ laid_out (commands_with m code (drop from words))) some ∙ ap (◌++◌ p.done) (next (left - 1) from k) ∙ sym (append_assoc p.done command (laid_out (commands_with (left - 1) code (drop (from + each) words))));
           enough = omega (arith, p.enough, one_fewer left each h);
           room = omega (arith, p.room, one_fewer left (1 + 8 * each) h);
@@ -74,8 +74,8 @@ module _ (batch₀ : List ℕ) (at code : ℕ) (words : List ℕ) (n each : ℕ)
     pub fits : 0 < left → (from + each ≤ length words) × (to + 1 + 8 * each ≤ length batch)
     fits h = (omega (arith, p.enough, one_fewer left each h), omega (arith, p.room, p.same_length, one_fewer left (1 + 8 * each) h))
 
-    pub all-put : width code % 8 ≡ 0 → n * (width code / 8) ≤ length words → left ≤ 0 → (to ≡ at + n * (1 + width code)) × (batch ≡ pasted batch₀ at (laid_out (commands_with n code words)))
-    all-put whole enough h =
+    pub all_put : width code % 8 ≡ 0 → n * (width code / 8) ≤ length words → left ≤ 0 → (to ≡ at + n * (1 + width code)) × (batch ≡ pasted batch₀ at (laid_out (commands_with n code words)))
+    all_put whole enough h =
         let none : left ≡ 0 = omega arith in
         let all : p.done ≡ laid_out (commands_with n code words) = sym (p.rest ∙ rw (none, laid_none) (append-nil p.done)) in
         (p.reached ∙ ap (λ l. at + length l) all ∙ ap (◌+◌ at) (length-laid n code words whole enough), p.so_far ∙ ap (pasted batch₀ at) all)

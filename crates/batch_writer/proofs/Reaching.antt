@@ -5,7 +5,7 @@ use Prim.Native.Nat.{ℕ, ◌+◌, ◌*◌, ◌/◌, ◌%◌, ◌≤◌, ◌<◌
 use native.Mathlib.Omega.{arith}
 use lib.ListN.{length, set, length-append, length-set}
 use Rattle.batch_words.specs.Pasted.{pasted}
-use Rattle.batch_words.proofs.Pasting.{stored, pasted-on, pasted_whole}
+use Rattle.batch_words.proofs.Pasting.{stored, pasted_on, pasted_whole}
 use Rattle.batch_commands.specs.Format.{width, laid_out}
 use Rattle.batch_writer.specs.Layout.{commands_with}
 use Rattle.batch_writer.proofs.Laying.{length-laid}
@@ -24,20 +24,20 @@ module _ {batch₀ batch : List ℕ} {at n : ℕ} {bytes : List ℕ} (r : Reache
         same_length = l ∙ r.same_length;
         place = p ∙ ap (λ k. k + m) r.place;
         long = length-append bytes more ∙ omega (arith, r.long);
-        holds = h ∙ ap (λ b. pasted b at more) r.holds ∙ pasted-on batch₀ 0 bytes (omega (arith, r.long)) at more (omega (arith, r.place, r.long));
+        holds = h ∙ ap (λ b. pasted b at more) r.holds ∙ pasted_on batch₀ 0 bytes (omega (arith, r.long)) at more (omega (arith, r.place, r.long));
       }
 
   -- commands of one kind
-  pub on-kind : (k code : ℕ) (ws batch' : List ℕ) (at' : ℕ) → width code % 8 ≡ 0 → k * (width code / 8) ≤ length ws → n + k * (1 + width code) ≤ length batch₀
+  pub on_kind : (k code : ℕ) (ws batch' : List ℕ) (at' : ℕ) → width code % 8 ≡ 0 → k * (width code / 8) ≤ length ws → n + k * (1 + width code) ≤ length batch₀
       → length batch' ≡ length batch → at' ≡ at + k * (1 + width code) → batch' ≡ pasted batch at (laid_out (commands_with k code ws))
       → Reached batch₀ batch' at' (n + k * (1 + width code)) (bytes ++ laid_out (commands_with k code ws))
-  on-kind k code ws batch' at' whole enough fits l p h = on (laid_out (commands_with k code ws)) batch' at' (k * (1 + width code)) fits (length-laid k code ws whole enough) l p h
+  on_kind k code ws batch' at' whole enough fits l p h = on (laid_out (commands_with k code ws)) batch' at' (k * (1 + width code)) fits (length-laid k code ws whole enough) l p h
 
   pub has_room : (m : ℕ) → n + m ≤ length batch₀ → at + m ≤ length batch
   has_room m h = omega (arith, r.place, r.same_length)
 
-  pub last-room : n + 1 ≡ length batch₀ → at < length batch
-  last-room h = omega (arith, r.place, r.same_length)
+  pub last_room : n + 1 ≡ length batch₀ → at < length batch
+  last_room h = omega (arith, r.place, r.same_length)
 
   -- the last byte
   pub ends : (b : ℕ) → n + 1 ≡ length batch₀ → set batch at b ≡ bytes ++ (b ∷ [])

@@ -13,11 +13,11 @@ module _ (c : Contents) where
   abbrev pub past01 : ℕ
   past01 = 5
 
-  abbrev pub past0B : ℕ
-  past0B = past01 + height_length c.log2_height
+  abbrev pub past0_b : ℕ
+  past0_b = past01 + height_length c.log2_height
 
   abbrev pub past07 : ℕ
-  past07 = past0B + 41
+  past07 = past0_b + 41
 
   abbrev pub past08 : ℕ
   past08 = past07 + length c.input * 9
@@ -42,7 +42,7 @@ module _ (c : Contents) where
 
 pub record Room (c : Contents) (batch : ℕ) : Type 0 where
   pub room01 : past01 c ≤ batch
-  pub room0_b : past0B c ≤ batch
+  pub room0_b : past0_b c ≤ batch
   pub room07 : past07 c ≤ batch
   pub room08 : past08 c ≤ batch
   pub room09 : past09 c ≤ batch

@@ -14,7 +14,7 @@ use field::XFieldElement;
 use refusal::{Answer, MAX_LEN, Refusal};
 
 // The record itself lies in a slice that the caller lends.
-#[derive(Drop)]
+#[derive(Clone, Copy)]
 pub struct Challenges {}
 
 impl Challenges {

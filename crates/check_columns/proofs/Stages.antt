@@ -38,5 +38,5 @@ module _ (main challenges offered : List ℕ) {v : Verdict} (checked : check_ans
         no_zero = none.1.1.1.0;
       }
 
-  pub verdict-is : verdict challenges main offered ≡ v
-  verdict-is = cc tests.1
+  pub verdict_is : verdict challenges main offered ≡ v
+  verdict_is = cc tests.1

@@ -29,28 +29,28 @@ module _ (weights : List XFieldElement) (prev curr : List ℕ) (z : XFieldElemen
     unfolding u32_entries
     split ea eb e k = rw (k, ea, eb, sym read ∙ e)
 
-    pub with-result : {b c : ℕ} → a ≡ st prev 0 → b ≡ st prev 1 → c ≡ st curr 0 → OneOf (6 ∷ 14 ∷ 30 ∷ []) ci
+    pub with_result : {b c : ℕ} → a ≡ st prev 0 → b ≡ st prev 1 → c ≡ st curr 0 → OneOf (6 ∷ 14 ∷ 30 ∷ []) ci
         → Sum (one_over (weigh weights (a ∷ b ∷ ci ∷ c ∷ [])) ∷ []) r → Answer r
     unfolding u32_entries
-    with-result ea eb ec (inl e) k = rw (k, ea, eb, ec, sym read ∙ e, e)
-    with-result ea eb ec (inr (inl e)) k = rw (k, ea, eb, ec, sym read ∙ e, e)
-    with-result ea eb ec (inr (inr e)) k = rw (k, ea, eb, ec, sym read ∙ e, e)
+    with_result ea eb ec (inl e) k = rw (k, ea, eb, ec, sym read ∙ e, e)
+    with_result ea eb ec (inr (inl e)) k = rw (k, ea, eb, ec, sym read ∙ e, e)
+    with_result ea eb ec (inr (inr e)) k = rw (k, ea, eb, ec, sym read ∙ e, e)
 
     pub xor : {b c x : ℕ} → a ≡ st prev 0 → b ≡ st prev 1 → c ≡ st curr 0 → ci ≡ 22 → x ≡ and_of_xor a b c
         → Sum (one_over (weigh weights (a ∷ b ∷ 14 ∷ x ∷ [])) ∷ []) r → Answer r
     unfolding u32_entries
     xor ea eb ec e ex k = rw (k, ex, ea, eb, ec, sym read ∙ e)
 
-    pub one-operand : {c : ℕ} → a ≡ st prev 0 → c ≡ st curr 0 → OneOf (12 ∷ 28 ∷ []) ci
+    pub one_operand : {c : ℕ} → a ≡ st prev 0 → c ≡ st curr 0 → OneOf (12 ∷ 28 ∷ []) ci
         → Sum (one_over (weigh weights (a ∷ 0 ∷ ci ∷ c ∷ [])) ∷ []) r → Answer r
     unfolding u32_entries
-    one-operand ea ec (inl e) k = rw (k, ea, ec, sym read ∙ e, e)
-    one-operand ea ec (inr e) k = rw (k, ea, ec, sym read ∙ e, e)
+    one_operand ea ec (inl e) k = rw (k, ea, ec, sym read ∙ e, e)
+    one_operand ea ec (inr e) k = rw (k, ea, ec, sym read ∙ e, e)
 
-    pub div-mod : {s t : XFieldElement} {b c d : ℕ} → a ≡ st prev 0 → b ≡ st prev 1 → c ≡ st curr 0 → d ≡ st curr 1 → ci ≡ 20
+    pub div_mod : {s t : XFieldElement} {b c d : ℕ} → a ≡ st prev 0 → b ≡ st prev 1 → c ≡ st curr 0 → d ≡ st curr 1 → ci ≡ 20
         → s ≡ weigh weights (c ∷ b ∷ 6 ∷ 1 ∷ []) → t ≡ weigh weights (a ∷ d ∷ 4 ∷ []) → Sum (one_over s ∷ one_over t ∷ []) r → Answer r
     unfolding u32_entries
-    div-mod ea eb ec ed e h₁ h₂ k = rw (k, h₁, h₂, ea, eb, ec, ed, sym read ∙ e)
+    div_mod ea eb ec ed e h₁ h₂ k = rw (k, h₁, h₂, ea, eb, ec, ed, sym read ∙ e)
 
     pub merkle : {b : ℕ} → a ≡ st prev 5 → b ≡ st curr 5 → OneOf (36 ∷ 44 ∷ []) ci
         → Sum (one_over (weigh weights (a ∷ b ∷ 4 ∷ [])) ∷ []) r → Answer r
@@ -67,9 +67,9 @@ module _ (weights : List XFieldElement) (prev curr : List ℕ) {ci : ℕ} (read 
   not : (k : ℕ) → (ci ≡ k → ⊥) → eqb (get_or prev 3 0) k ≡ false
   not k apart = ne_eqb (get_or prev 3 0) k (λ e. apart (read ∙ e))
 
-  pub no-entries : (OneOf (4 ∷ 6 ∷ 12 ∷ 14 ∷ 20 ∷ 22 ∷ 28 ∷ 30 ∷ 36 ∷ 44 ∷ []) ci → ⊥) → u32_entries weights prev curr ≡ []
+  pub no_entries : (OneOf (4 ∷ 6 ∷ 12 ∷ 14 ∷ 20 ∷ 22 ∷ 28 ∷ 30 ∷ 36 ∷ 44 ∷ []) ci → ⊥) → u32_entries weights prev curr ≡ []
   unfolding u32_entries
-  no-entries n =
+  no_entries n =
       simp (
         not 4 (λ e. n (inl e)),
         not 6 (λ e. n (inr (inl e))),

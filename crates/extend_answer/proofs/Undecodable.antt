@@ -28,25 +28,25 @@ module _ (main : List ℕ) (c n : ℕ) where
   pub from_start : undecodable_from main 0 n ≡ undecodable_from main 0 (n - 0)
   from_start = let e : n ≡ n - 0 = omega arith in ap (undecodable_from main 0) e
 
-  pub row-fails : c < n → is_read (instruction_of (row_at main c)) ≡ false → undecodable_from main c (n - c) ≡ true
+  pub row_fails : c < n → is_read (instruction_of (row_at main c)) ≡ false → undecodable_from main c (n - c) ≡ true
   unfolding undecodable_from
-  row-fails h r =
+  row_fails h r =
       let e : n - c ≡ suc (n - suc c) = omega arith in
       ap (undecodable_from main c) e ∙ rw r
 
-  pub row-decodes : c < n → is_read (instruction_of (row_at main c)) ≡ true → undecodable_from main c (n - c) ≡ undecodable_from main (c + 1) (n - (c + 1))
+  pub row_decodes : c < n → is_read (instruction_of (row_at main c)) ≡ true → undecodable_from main c (n - c) ≡ undecodable_from main (c + 1) (n - (c + 1))
   unfolding undecodable_from
-  row-decodes h r =
+  row_decodes h r =
       let e : n - c ≡ suc (n - (c + 1)) = omega arith in
       let f : suc c ≡ c + 1 = omega arith in
       ap (undecodable_from main c) e ∙ rw r (ap (λ k. undecodable_from main k (n - (c + 1))) f)
 
-  pub row-not-below : all_below (row_at main c) ≡ false → all_below (drop (c * 39) main) ≡ false
-  row-not-below e = ap all_below (row_and_rest main c) ∙ both_below (row_at main c) (drop ((c + 1) * 39) main) ∙ rw e
+  pub row_not_below : all_below (row_at main c) ≡ false → all_below (drop (c * 39) main) ≡ false
+  row_not_below e = ap all_below (row_and_rest main c) ∙ both_below (row_at main c) (drop ((c + 1) * 39) main) ∙ rw e
 
   pub row_below : all_below (row_at main c) ≡ true → all_below (drop (c * 39) main) ≡ all_below (drop ((c + 1) * 39) main)
   row_below e = ap all_below (row_and_rest main c) ∙ both_below (row_at main c) (drop ((c + 1) * 39) main) ∙ rw e
 
-  pub no-row-left : n ≤ c → undecodable_from main c (n - c) ≡ false
+  pub no_row_left : n ≤ c → undecodable_from main c (n - c) ≡ false
   unfolding undecodable_from
-  no-row-left h = let e : n - c ≡ 0 = omega arith in ap (undecodable_from main c) e
+  no_row_left h = let e : n - c ≡ 0 = omega arith in ap (undecodable_from main c) e

@@ -12,7 +12,7 @@ use refusal::Refusal;
 pub mod reducing;
 pub mod unchecked;
 
-// c0 + typeof.c1.X + typeof.c2.X² modulo X³ - X + 1.
+// c0 + c1·X + c2·X² modulo X³ - X + 1.
 #[derive(Clone, Copy)]
 pub struct XFieldElement {
     pub c0: u64,

@@ -2,7 +2,7 @@
 use Rattle.std.proofs.Common.{◌≡◌, ℕ, zero, suc, ◌*◌, ◌%◌, ◌<◌, Bool, true, false, eqb, ltb, ◌≢◌, [], ◌∷◌, sym, refl, ap, ◌∙◌, ap₂, mod-lt, mul_assoc, arith, lt-ltb, ne_eqb, eqb-true}
 use Rattle.algebra.specs.Modulus.{p, plus, times, inverse}
 use Rattle.algebra.proofs.Base.{p_positive, BaseRing, el, el-injective, el-times, el-laws, el-nonzero, el-inverse, base_inverse_below, times_below}
-use Rattle.algebra.proofs.FieldLaws.{unit-unique}
+use Rattle.algebra.proofs.FieldLaws.{unit_unique}
 use Rattle.algebra.proofs.Residues.{mod-mul_mod}
 use Rattle.algebra.proofs.Solver.{◌⊕◌, ◌⊗◌, solve, v0, v1, v2}
 use Rattle.refusal.specs.Tests.{◌when◌, ◌unless◌, first_or}
@@ -54,7 +54,7 @@ to_inverse a lo hi =
     let i = inverse (to_montgomery a) in
     let nonzero : 0 < to_montgomery a = omega (arith, to_nonzero a lo hi) in
     el-injective _ _ (mod-lt _ p_positive) (base_inverse_below a)
-    (unit-unique BaseRing (el a) _ _
+    (unit_unique BaseRing (el a) _ _
     (ap (BaseRing.mul (el a)) (el-times i RADIX)
     ∙ solve BaseRing (el a ∷ el i ∷ el RADIX ∷ []) (v0 ⊗ (v1 ⊗ v2)) ((v0 ⊗ v2) ⊗ v1) tt
     ∙ ap (λ x. BaseRing.mul x (el i)) (sym (el-times a RADIX))
@@ -77,10 +77,10 @@ module _ (f g : ℕ → ℕ → ℕ) (e : (a b : ℕ) → f (to_montgomery a) (t
       ≡ through to_montgomery (first_or Refused (words_tests a b) (Word (g a b)))
   to_both a b h k = both _ (conversions.to_below a) (conversions.to_below b) ∙ ap Word (e a b) ∙ sym (ap (through to_montgomery) (both _ h k))
 
-  from-both : (a b : ℕ) → a < p → b < p
+  from_both : (a b : ℕ) → a < p → b < p
       → through from_montgomery (first_or Refused (words_tests a b) (Word (f a b)))
       ≡ first_or Refused (words_tests (from_montgomery a) (from_montgomery b)) (Word (g (from_montgomery a) (from_montgomery b)))
-  from-both a b h k =
+  from_both a b h k =
       ap (through from_montgomery) (both _ h k)
       ∙ ap Word
       (ap₂ (λ (x y : ℕ). from_montgomery (f x y)) (sym (conversions.to_from a h)) (sym (conversions.to_from b k))
@@ -115,8 +115,8 @@ plain_seen_through =
       add = to_both plus plus to_sum (λ a b. mod-lt _ p_positive);
       mul = to_both montgomery_product times to_product times_below;
       inverse = inverse_through;
-      from_add = from-both plus plus to_sum (λ a b. mod-lt _ p_positive);
-      from_mul = from-both montgomery_product times to_product times_below;
+      from_add = from_both plus plus to_sum (λ a b. mod-lt _ p_positive);
+      from_mul = from_both montgomery_product times to_product times_below;
       from_inverse = λ a h.
           ap (λ (w : ℕ). through from_montgomery (montgomery_inverted w)) (sym (conversions.to_from a h))
           ∙ ap (through from_montgomery) (inverse_through (from_montgomery a) (conversions.from_below a))

@@ -54,26 +54,26 @@ module _ (row ci nia : ℕ) where
   unfolding numbers_text
   numbers = joined (word row 32 ++ word ci 32) (word nia 32) (joined (word row 32) (word ci 32) (number row) (number ci)) (number nia)
 
-  some-numbers : 1 ≤ length (numbers_text row ci nia)
+  some_numbers : 1 ≤ length (numbers_text row ci nia)
   unfolding numbers_text
-  some-numbers = omega (arith, length-append (word row 32 ++ word ci 32) (word nia 32), length-append (decimal nia) (32 ∷ []))
+  some_numbers = omega (arith, length-append (word row 32 ++ word ci 32) (word nia 32), length-append (decimal nia) (32 ∷ []))
 
   said : (reason : List ℕ) → NoLetter (numbers_text row ci nia ++ reason ++ ascii "\n")
   said reason =
-      led (numbers_text row ci nia ++ reason) (ascii "\n") (omega (arith, some-numbers, length-append (numbers_text row ci nia) reason))
-      (led (numbers_text row ci nia) reason some-numbers numbers)
+      led (numbers_text row ci nia ++ reason) (ascii "\n") (omega (arith, some_numbers, length-append (numbers_text row ci nia) reason))
+      (led (numbers_text row ci nia) reason some_numbers numbers)
 
-  not-empty : (reason : List ℕ) → numbers_text row ci nia ++ reason ++ ascii "\n" ≡ [] → ⊥
-  not-empty reason e = omega (arith, ap length e, length-append (numbers_text row ci nia ++ reason) (ascii "\n"))
+  not_empty : (reason : List ℕ) → numbers_text row ci nia ++ reason ++ ascii "\n" ≡ [] → ⊥
+  not_empty reason e = omega (arith, ap length e, length-append (numbers_text row ci nia ++ reason) (ascii "\n"))
 
-  of-line : (d : Decoded) → NoLetter (line_of d row ci nia)
-  of-line (Read i) = nothing
-  of-line Unknown = said (unknown_text ci)
-  of-line (Outside class i) = said (outside_text class i nia)
+  of_line : (d : Decoded) → NoLetter (line_of d row ci nia)
+  of_line (Read i) = nothing
+  of_line Unknown = said (unknown_text ci)
+  of_line (Outside class i) = said (outside_text class i nia)
 
-  line-no-letter : NoLetter (line row ci nia)
+  line_no_letter : NoLetter (line row ci nia)
   unfolding line
-  line-no-letter = of-line (decoded ci nia)
+  line_no_letter = of_line (decoded ci nia)
 
 module _ (words : List ℕ) (row : ℕ) where
   abbrev ci : ℕ
@@ -82,14 +82,14 @@ module _ (words : List ℕ) (row : ℕ) where
   abbrev nia : ℕ
   nia = get_or words 4 0
 
-  by-decoded : (d : Decoded) → decoded ci nia ≡ d → line_of d row ci nia ≡ [] → Decodes words
-  by-decoded (Read i) e z = record { instruction = i; read = e }
-  by-decoded Unknown e z = absurd (not-empty row ci nia (unknown_text ci) z)
-  by-decoded (Outside class i) e z = absurd (not-empty row ci nia (outside_text class i nia) z)
+  by_decoded : (d : Decoded) → decoded ci nia ≡ d → line_of d row ci nia ≡ [] → Decodes words
+  by_decoded (Read i) e z = record { instruction = i; read = e }
+  by_decoded Unknown e z = absurd (not_empty row ci nia (unknown_text ci) z)
+  by_decoded (Outside class i) e z = absurd (not_empty row ci nia (outside_text class i nia) z)
 
   decodes : row_text words row ≡ [] → Decodes words
   unfolding line
-  decodes z = by-decoded (decoded ci nia) refl z
+  decodes z = by_decoded (decoded ci nia) refl z
 
   no_line : Decodes words → row_text words row ≡ []
   unfolding line
@@ -100,25 +100,25 @@ front_empty [] ys e = (refl, e)
 front_empty (x ∷ xs) ys e = let z : ◌≡◌ {A = ℕ} 0 1 = cc in absurd (omega arith)
 
 module _ (f : ℕ → List ℕ) where
-  rows-no-letter : (c n : ℕ) → ((k : ℕ) → NoLetter (f k)) → NoLetter (rows_from f c n)
+  rows_no_letter : (c n : ℕ) → ((k : ℕ) → NoLetter (f k)) → NoLetter (rows_from f c n)
   unfolding rows_from
-  rows-no-letter c zero h = nothing
-  rows-no-letter c (suc n) h = joined (f c) (rows_from f (suc c) n) (h c) (rows-no-letter (suc c) n h)
+  rows_no_letter c zero h = nothing
+  rows_no_letter c (suc n) h = joined (f c) (rows_from f (suc c) n) (h c) (rows_no_letter (suc c) n h)
 
-  each-empty : (c n : ℕ) → rows_from f c n ≡ [] → (k : ℕ) → k < n → f (c + k) ≡ []
+  each_empty : (c n : ℕ) → rows_from f c n ≡ [] → (k : ℕ) → k < n → f (c + k) ≡ []
   unfolding rows_from
-  each-empty c zero e k h = absurd (omega arith)
-  each-empty c (suc n) e zero h = rw (add-zero c) (front_empty (f c) (rows_from f (suc c) n) e).0
-  each-empty c (suc n) e (suc k) h =
+  each_empty c zero e k h = absurd (omega arith)
+  each_empty c (suc n) e zero h = rw (add-zero c) (front_empty (f c) (rows_from f (suc c) n) e).0
+  each_empty c (suc n) e (suc k) h =
       let at : suc c + k ≡ c + suc k = omega arith in
-      ap f (sym at) ∙ each-empty (suc c) n (front_empty (f c) (rows_from f (suc c) n) e).1 k (omega arith)
+      ap f (sym at) ∙ each_empty (suc c) n (front_empty (f c) (rows_from f (suc c) n) e).1 k (omega arith)
 
-  all-empty : (c n : ℕ) → ((k : ℕ) → k < n → f (c + k) ≡ []) → rows_from f c n ≡ []
+  all_empty : (c n : ℕ) → ((k : ℕ) → k < n → f (c + k) ≡ []) → rows_from f c n ≡ []
   unfolding rows_from
-  all-empty c zero h = refl
-  all-empty c (suc n) h =
+  all_empty c zero h = refl
+  all_empty c (suc n) h =
       let first = ap f (sym (add-zero c)) ∙ h 0 (omega arith) in
-      let rest = all-empty (suc c) n (λ k g. let at : suc c + k ≡ c + suc k = omega arith in ap f at ∙ h (suc k) (omega arith)) in
+      let rest = all_empty (suc c) n (λ k g. let at : suc c + k ≡ c + suc k = omega arith in ap f at ∙ h (suc k) (omega arith)) in
       ap (λ t. t ++ rows_from f (suc c) n) first ∙ rest
 
 told : (l : List ℕ) → NoLetter l → or_all_decode l ≡ ascii "all rows decode\n" → l ≡ []
@@ -132,13 +132,13 @@ module _ (trace : List ℕ) where
   to : trace_text trace ≡ ascii "all rows decode\n" → (row : ℕ) → row < rows trace → Decodes (row_at trace row)
   unfolding trace_text lines
   to e row h =
-      let plain = rows-no-letter texts 0 (rows trace) (λ k. line-no-letter k (get_or (row_at trace k) 3 0) (get_or (row_at trace k) 4 0)) in
+      let plain = rows_no_letter texts 0 (rows trace) (λ k. line_no_letter k (get_or (row_at trace k) 3 0) (get_or (row_at trace k) 4 0)) in
       let empty = told (rows_from texts 0 (rows trace)) plain e in
-      decodes (row_at trace row) row (ap texts (sym (zero-add row)) ∙ each-empty texts 0 (rows trace) empty row h)
+      decodes (row_at trace row) row (ap texts (sym (zero-add row)) ∙ each_empty texts 0 (rows trace) empty row h)
 
   from : ((row : ℕ) → row < rows trace → Decodes (row_at trace row)) → trace_text trace ≡ ascii "all rows decode\n"
   unfolding trace_text lines
-  from all = ap or_all_decode (all-empty texts 0 (rows trace) (λ k h. ap texts (zero-add k) ∙ no_line (row_at trace k) k (all k h)))
+  from all = ap or_all_decode (all_empty texts 0 (rows trace) (λ k h. ap texts (zero-add k) ∙ no_line (row_at trace k) k (all k h)))
 
 pub all_decode : AllDecode
 all_decode trace = (to trace, from trace)

@@ -59,46 +59,46 @@ module _ {A : Type 0} (refused : Refusal → A) where
       ((s.0, t.0), t.1)
 
   -- and where no test holds, that is answered
-  pub none-holds : (tests : Tests) (done : A) → NoneHolds tests → first_or refused tests done ≡ done
-  none-holds [] done none = refl
-  none-holds (test ∷ tests) done none = rw none.0 (none-holds tests done none.1)
+  pub none_holds : (tests : Tests) (done : A) → NoneHolds tests → first_or refused tests done ≡ done
+  none_holds [] done none = refl
+  none_holds (test ∷ tests) done none = rw none.0 (none_holds tests done none.1)
 
-  step-refused : (test : Bool) (s r : Refusal) (rest : A) → ((t : Refusal) → refused s ≡ refused t → s ≡ t) → cond test (refused s) rest ≡ refused r
+  step_refused : (test : Bool) (s r : Refusal) (rest : A) → ((t : Refusal) → refused s ≡ refused t → s ≡ t) → cond test (refused s) rest ≡ refused r
       → ((test ≡ true) × (s ≡ r)) ⊎ ((test ≡ false) × (rest ≡ refused r))
-  step-refused true s r rest injective e = inl (refl, injective r e)
-  step-refused false s r rest injective e = inr (refl, e)
+  step_refused true s r rest injective e = inl (refl, injective r e)
+  step_refused false s r rest injective e = inr (refl, e)
 
   -- r is answered only if a test of r holds and none before it
-  pub holds-first : ((s t : Refusal) → refused s ≡ refused t → s ≡ t) → (tests : Tests) (done : A) (r : Refusal) → done ≢ refused r
+  pub holds_first : ((s t : Refusal) → refused s ≡ refused t → s ≡ t) → (tests : Tests) (done : A) (r : Refusal) → done ≢ refused r
       → first_or refused tests done ≡ refused r → HoldsFirst r tests
-  holds-first injective [] done r ne e = ne e
-  holds-first injective (test ∷ tests) done r ne e =
-      ⊎_elim inl (λ h. inr (h.0, holds-first injective tests done r ne h.1))
-      (step-refused test.holds test.refusal r (first_or refused tests done) (injective test.refusal) e)
+  holds_first injective [] done r ne e = ne e
+  holds_first injective (test ∷ tests) done r ne e =
+      ⊎_elim inl (λ h. inr (h.0, holds_first injective tests done r ne h.1))
+      (step_refused test.holds test.refusal r (first_or refused tests done) (injective test.refusal) e)
 
   -- and it is answered then
-  pub refused-first : (tests : Tests) (done : A) (r : Refusal) → HoldsFirst r tests → first_or refused tests done ≡ refused r
-  refused-first [] done r h = absurd h
-  refused-first (test ∷ tests) done r (inl h) = rw (h.0, h.1)
-  refused-first (test ∷ tests) done r (inr h) = rw h.0 (refused-first tests done r h.1)
+  pub refused_first : (tests : Tests) (done : A) (r : Refusal) → HoldsFirst r tests → first_or refused tests done ≡ refused r
+  refused_first [] done r h = absurd h
+  refused_first (test ∷ tests) done r (inl h) = rw (h.0, h.1)
+  refused_first (test ∷ tests) done r (inr h) = rw h.0 (refused_first tests done r h.1)
 
   -- an answer's number is that of a test, or of what is answered past all of them
-  pub number-listed : {line : List ℕ} (number : A → ℕ) → ((r : Refusal) → number (refused r) ≡ number_of r)
+  pub number_listed : {line : List ℕ} (number : A → ℕ) → ((r : Refusal) → number (refused r) ≡ number_of r)
       → (tests : Tests) (done : A) → Listed line tests → Memᴰ (number done) line → Memᴰ (number (first_or refused tests done)) line
-  number-listed number numbered [] done l f = f
-  number-listed number numbered (test ∷ tests) done l f =
-      chosen number test.holds (refused test.refusal) (first_or refused tests done) (rw (numbered test.refusal) l.0) (number-listed number numbered tests done l.1 f)
+  number_listed number numbered [] done l f = f
+  number_listed number numbered (test ∷ tests) done l f =
+      chosen number test.holds (refused test.refusal) (first_or refused tests done) (rw (numbered test.refusal) l.0) (number_listed number numbered tests done l.1 f)
 
 done_alone : (r : Refusal) → Refused r ≢ Done
 done_alone r e = let z : ◌≡◌ {A = ℕ} 0 1 = cc in omega arith
 
 -- done exactly if no test holds
 pub done_exactly : (tests : Tests) → (first tests ≡ Done) ↔ NoneHolds tests
-done_exactly tests = (λ e. (past_all Refused tests Done Done done_alone e).0, none-holds Refused tests Done)
+done_exactly tests = (λ e. (past_all Refused tests Done Done done_alone e).0, none_holds Refused tests Done)
 
 -- refused with r exactly if a test of r holds and none before it
 pub refused_exactly : (tests : Tests) (r : Refusal) → (first tests ≡ Refused r) ↔ HoldsFirst r tests
-refused_exactly tests r = (holds-first Refused (λ s t e. cc) tests Done r (λ e. done_alone r (sym e)), refused-first Refused tests Done r)
+refused_exactly tests r = (holds_first Refused (λ s t e. cc) tests Done r (λ e. done_alone r (sym e)), refused_first Refused tests Done r)
 
 -- tests put behind others change no refusal of theirs
 holds_before : (before after : Tests) (r : Refusal) → HoldsFirst r before → HoldsFirst r (before ++ after)
@@ -126,32 +126,32 @@ never (test ∷ tests) r l (inl h) = not_another r test tests l h.1
 never (test ∷ tests) r l (inr h) = never tests r (and_yes (another r test) (lacks r tests) l).1 h.1
 
 module _ (r : Refusal) (condition : Bool) (after : Tests) where
-  to-inserted : (before : Tests) → T (lacks r before) → T (lacks r after) → HoldsFirst r (before ++ (r when condition) ∷ after) → NoneHolds before × (condition ≡ true)
-  to-inserted [] l m (inl h) = (tt, h.0)
-  to-inserted [] l m (inr h) = absurd (never after r m h.1)
-  to-inserted (test ∷ before) l m (inl h) = absurd (not_another r test before l h.1)
-  to-inserted (test ∷ before) l m (inr h) =
-      let n = to-inserted before (and_yes (another r test) (lacks r before) l).1 m h.1 in
+  to_inserted : (before : Tests) → T (lacks r before) → T (lacks r after) → HoldsFirst r (before ++ (r when condition) ∷ after) → NoneHolds before × (condition ≡ true)
+  to_inserted [] l m (inl h) = (tt, h.0)
+  to_inserted [] l m (inr h) = absurd (never after r m h.1)
+  to_inserted (test ∷ before) l m (inl h) = absurd (not_another r test before l h.1)
+  to_inserted (test ∷ before) l m (inr h) =
+      let n = to_inserted before (and_yes (another r test) (lacks r before) l).1 m h.1 in
       ((h.0, n.0), n.1)
 
-  from-inserted : (before : Tests) → NoneHolds before → condition ≡ true → HoldsFirst r (before ++ (r when condition) ∷ after)
-  from-inserted [] none e = inl (e, refl)
-  from-inserted (test ∷ before) none e = inr (none.0, from-inserted before none.1 e)
+  from_inserted : (before : Tests) → NoneHolds before → condition ≡ true → HoldsFirst r (before ++ (r when condition) ∷ after)
+  from_inserted [] none e = inl (e, refl)
+  from_inserted (test ∷ before) none e = inr (none.0, from_inserted before none.1 e)
 
   -- a refusal of its own, put in: answered exactly if its condition holds and no test before it
-  pub inserted-exactly : (before : Tests) → T (lacks r before) → T (lacks r after) → (first (before ++ (r when condition) ∷ after) ≡ Refused r) ↔ (NoneHolds before × (condition ≡ true))
-  inserted-exactly before l m =
+  pub inserted_exactly : (before : Tests) → T (lacks r before) → T (lacks r after) → (first (before ++ (r when condition) ∷ after) ≡ Refused r) ↔ (NoneHolds before × (condition ≡ true))
+  inserted_exactly before l m =
       let law = refused_exactly (before ++ (r when condition) ∷ after) r in
-      (λ e. to-inserted before l m (law.0 e), λ h. law.1 (from-inserted before h.0 h.1))
+      (λ e. to_inserted before l m (law.0 e), λ h. law.1 (from_inserted before h.0 h.1))
 
   -- elsewhere the answer is as without it
-  pub inserted-elsewhere : (before : Tests) → first (before ++ (r when condition) ∷ after) ≢ Refused r → first (before ++ (r when condition) ∷ after) ≡ first (before ++ after)
-  inserted-elsewhere [] ne = here condition ne
+  pub inserted_elsewhere : (before : Tests) → first (before ++ (r when condition) ∷ after) ≢ Refused r → first (before ++ (r when condition) ∷ after) ≡ first (before ++ after)
+  inserted_elsewhere [] ne = here condition ne
     where
       here : (b : Bool) → cond b (Refused r) (first after) ≢ Refused r → cond b (Refused r) (first after) ≡ first after
       here true ne = absurd (ne refl)
       here false ne = refl
-  inserted-elsewhere (test ∷ before) ne = later test.holds (first (before ++ (r when condition) ∷ after)) ne (inserted-elsewhere before)
+  inserted_elsewhere (test ∷ before) ne = later test.holds (first (before ++ (r when condition) ∷ after)) ne (inserted_elsewhere before)
     where
       later : (b : Bool) (x : Answer) → cond b (Refused test.refusal) x ≢ Refused r → (x ≢ Refused r → x ≡ first (before ++ after))
           → cond b (Refused test.refusal) x ≡ cond b (Refused test.refusal) (first (before ++ after))

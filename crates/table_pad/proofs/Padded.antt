@@ -17,7 +17,7 @@ use Rattle.table_rows.specs.Writes.{with_row, with_rows}
 use Rattle.table_pad.specs.Pad.{pad_tests, pad_answer, padding_row, padded_row}
 use Rattle.refusal.proofs.Answers.{or-false}
 use Rattle.refusal.proofs.First.{done_exactly}
-use Rattle.table_rows.proofs.Rows.{split_rows, same_rows, rows_of, replace-next, row_of_put}
+use Rattle.table_rows.proofs.Rows.{split_rows, same_rows, rows_of, replace_next, row_of_put}
 
 -- a table whose shape is not refused
 pub record Shaped (table : List ℕ) (len : ℕ) : Type 0 where
@@ -47,9 +47,9 @@ module _ (table : List ℕ) (len : ℕ) where
       }
 
   -- the first rows are kept, the others are padding
-  pub copied-down : Shaped table len → rows_from (padded_row table len) 0 (rows table) ≡ with_rows 39 table (padding_row (row_at table (len - 1))) len (rows table - len)
+  pub copied_down : Shaped table len → rows_from (padded_row table len) 0 (rows table) ≡ with_rows 39 table (padding_row (row_at table (len - 1))) len (rows table - len)
   unfolding with_rows
-  copied-down s =
+  copied_down s =
       let last = row_at table (len - 1) in
       let left = rows table - len in
       let e : rows table ≡ len + left = omega arith in
@@ -66,15 +66,15 @@ module _ (table : List ℕ) (len : ℕ) where
 
 -- padding like a padding row, and its multiplicity
 module _ (c : ℕ) where
-  pub padding-again : (row : List ℕ) → length row ≡ 39 → (a : ℕ) → padding_row (padding_row row a) c ≡ padding_row row c
-  padding-again [] e a = cc
-  padding-again (x ∷ []) e a = cc
-  padding-again (x ∷ y ∷ rest) e a = ap (λ (l : List ℕ). c ∷ 1 ∷ l) (set-set rest 36 0 0)
+  pub padding_again : (row : List ℕ) → length row ≡ 39 → (a : ℕ) → padding_row (padding_row row a) c ≡ padding_row row c
+  padding_again [] e a = cc
+  padding_again (x ∷ []) e a = cc
+  padding_again (x ∷ y ∷ rest) e a = ap (λ (l : List ℕ). c ∷ 1 ∷ l) (set-set rest 36 0 0)
 
-  pub padding-without : (row : List ℕ) → length row ≡ 39 → set (padding_row row c) 38 0 ≡ padding_row row c
-  padding-without [] e = cc
-  padding-without (x ∷ []) e = cc
-  padding-without (x ∷ y ∷ rest) e = ap (λ (l : List ℕ). c ∷ 1 ∷ l) (set-set rest 36 0 0)
+  pub padding_without : (row : List ℕ) → length row ≡ 39 → set (padding_row row c) 38 0 ≡ padding_row row c
+  padding_without [] e = cc
+  padding_without (x ∷ []) e = cc
+  padding_without (x ∷ y ∷ rest) e = ap (λ (l : List ℕ). c ∷ 1 ∷ l) (set-set rest 36 0 0)
 
 -- words copied from before the place that they go to
 pub paste_above : (table : List ℕ) (to from i : ℕ) → from + i < to → to + i < length table
@@ -110,14 +110,14 @@ module _ (table next last : List ℕ) (len : ℕ) (whole : length last ≡ 39) (
   length-padding : (c : ℕ) → length (padding_row last c) ≡ 39
   length-padding c = simp length-set whole
 
-  pub like-first : (c : ℕ) → like next len c ≡ padding_row last c
-  like-first c = rw (put, row_of_put table len (padding_row last len) (omega arith) (length-padding len), set-set)
+  pub like_first : (c : ℕ) → like next len c ≡ padding_row last c
+  like_first c = rw (put, row_of_put table len (padding_row last len) (omega arith) (length-padding len), set-set)
 
-  pub first-padding : row_at next len ≡ like next len len
-  first-padding = rw put (row_of_put table len (padding_row last len) (omega arith) (length-padding len)) ∙ sym (like-first len)
+  pub first_padding : row_at next len ≡ like next len len
+  first_padding = rw put (row_of_put table len (padding_row last len) (omega arith) (length-padding len)) ∙ sym (like_first len)
 
-  pub rest-like-first : (n : ℕ) → len < n → with_rows 39 table (padding_row last) len (n - len) ≡ with_rows 39 next (like next len) (len + 1) (n - (len + 1))
+  pub rest_like_first : (n : ℕ) → len < n → with_rows 39 table (padding_row last) len (n - len) ≡ with_rows 39 next (like next len) (len + 1) (n - (len + 1))
   unfolding with_rows
-  rest-like-first n l =
-      replace-next 39 table (padding_row last) len n next l room (length-padding len) put
-      ∙ rw (same_rows (padding_row last) (like next len) (len + 1) (n - (len + 1)) (λ k g h. sym (like-first k)))
+  rest_like_first n l =
+      replace_next 39 table (padding_row last) len n next l room (length-padding len) put
+      ∙ rw (same_rows (padding_row last) (like next len) (len + 1) (n - (len + 1)) (λ k g h. sym (like_first k)))

@@ -77,15 +77,15 @@ length-rows width row c (suc n) h =
 
 -- a loop from row c up to row n that replaces the rows one by one
 module _ (width : ℕ) (table : List ℕ) (row : ℕ → List ℕ) (c n : ℕ) where
-  pub replace-past : n ≤ c → with_rows width table row c (n - c) ≡ table
+  pub replace_past : n ≤ c → with_rows width table row c (n - c) ≡ table
   unfolding with_rows rows_from
-  replace-past h =
+  replace_past h =
       let e : n - c ≡ 0 = omega arith in
       rw (e, add-zero, append-nil, take-append-drop)
 
-  pub replace-next : (next : List ℕ) → c < n → suc c * width ≤ length table → length (row c) ≡ width → next ≡ with_row width table c (row c) → with_rows width table row c (n - c) ≡ with_rows width next row (c + 1) (n - (c + 1))
+  pub replace_next : (next : List ℕ) → c < n → suc c * width ≤ length table → length (row c) ≡ width → next ≡ with_row width table c (row c) → with_rows width table row c (n - c) ≡ with_rows width next row (c + 1) (n - (c + 1))
   unfolding with_rows rows_from
-  replace-next next l h e q =
+  replace_next next l h e q =
       let front = take (c * width) table ++ row c in
       let back = drop (suc c * width) table in
       let s = suc-mul c width in
@@ -130,27 +130,27 @@ row_of_put table c row h e =
 
 -- word j of row d, where n rows stand before the rest
 module _ (width : ℕ) (row : ℕ → List ℕ) (n : ℕ) (rest : List ℕ) (whole : Whole width row 0 n) (d j : ℕ) (within : d < n) (column : j < width) where
-  split-at-row : (f : ℕ → List ℕ) → rows_from f 0 n ++ rest ≡ rows_from f 0 d ++ (f d ++ (rows_from f (suc d) (n - suc d) ++ rest))
+  split_at_row : (f : ℕ → List ℕ) → rows_from f 0 n ++ rest ≡ rows_from f 0 d ++ (f d ++ (rows_from f (suc d) (n - suc d) ++ rest))
   unfolding rows_from
-  split-at-row f =
+  split_at_row f =
       let e : n ≡ d + suc (n - suc d) = omega arith in
       ap (λ (k : ℕ). rows_from f 0 k ++ rest) e ∙ rw (split_rows f 0 d (suc (n - suc d)), zero-add) (simp append_assoc)
 
   before : length (rows_from row 0 d) ≡ d * width
   before = length-rows width row 0 d (λ k l h. whole k l (omega arith))
 
-  pub read-in-row : get_or (rows_from row 0 n ++ rest) (d * width + j) 0 ≡ get_or (row d) j 0
-  read-in-row =
+  pub read_in_row : get_or (rows_from row 0 n ++ rest) (d * width + j) 0 ≡ get_or (row d) j 0
+  read_in_row =
       let len = whole d (omega arith) (omega arith) in
-      rw (split-at-row row, ← before, get_or-append-add, get_or-append (row d) (rows_from row (suc d) (n - suc d) ++ rest) 0 j (omega arith))
+      rw (split_at_row row, ← before, get_or-append-add, get_or-append (row d) (rows_from row (suc d) (n - suc d) ++ rest) 0 j (omega arith))
 
   -- the other rows are the same
-  pub set-in-row : (next : ℕ → List ℕ) (v : ℕ) → set (row d) j v ≡ next d → ((k : ℕ) → (d ≡ k → ⊥) → next k ≡ row k) → set (rows_from row 0 n ++ rest) (d * width + j) v ≡ rows_from next 0 n ++ rest
-  set-in-row next v here others =
+  pub set_in_row : (next : ℕ → List ℕ) (v : ℕ) → set (row d) j v ≡ next d → ((k : ℕ) → (d ≡ k → ⊥) → next k ≡ row k) → set (rows_from row 0 n ++ rest) (d * width + j) v ≡ rows_from next 0 n ++ rest
+  set_in_row next v here others =
       let len = whole d (omega arith) (omega arith) in
       rw (
-        split-at-row row,
-        split-at-row next,
+        split_at_row row,
+        split_at_row next,
         same_rows next row 0 d (λ k l h. others k (λ e. omega arith)),
         same_rows next row (suc d) (n - suc d) (λ k l h. others k (λ e. omega arith)),
         ← before,

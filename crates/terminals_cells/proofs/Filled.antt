@@ -19,21 +19,21 @@ use Rattle.table_fill.specs.Fill.{fill_answer, fill_table, filled, filled_row, m
 use Rattle.table_fill.proofs.Accepted.{Accepted, accepted}
 use Rattle.batch.specs.Lent.{zeros}
 use Rattle.terminals_cells.specs.Kept.{Kept, longer}
-use Rattle.terminals_cells.proofs.Longer.{drop-within, longer-rows, longer-whole, longer_same}
+use Rattle.terminals_cells.proofs.Longer.{drop-within, longer_rows, longer_whole, longer_same}
 
 -- the table that goes on is the one at hand, or it holds the trace as that one does
 module _ (n : ℕ) (table : List ℕ) (height : ℕ) (kept : Kept n (rows table) height) where
-  pub all-at-hand : height ≤ rows table → longer height table ≡ table
-  all-at-hand h = let e : height ≡ rows table = omega (arith, kept.within) in ap (λ (k : ℕ). longer k table) e ∙ longer_same table
+  pub all_at_hand : height ≤ rows table → longer height table ≡ table
+  all_at_hand h = let e : height ≡ rows table = omega (arith, kept.within) in ap (λ (k : ℕ). longer k table) e ∙ longer_same table
 
-  pub not-shorter : (whole : whole_rows table ≡ true) → rows table < height → ltb (rows (longer height table)) n ≡ ltb (rows table) n
-  not-shorter whole h =
+  pub not_shorter : (whole : whole_rows table ≡ true) → rows table < height → ltb (rows (longer height table)) n ≡ ltb (rows table) n
+  not_shorter whole h =
       let e = kept.window h in
-      le-ltb (rows (longer height table)) n (omega (arith, e, longer-rows height table whole kept.within, kept.within)) ∙ sym (le-ltb (rows table) n (omega (arith, e)))
+      le-ltb (rows (longer height table)) n (omega (arith, e, longer_rows height table whole kept.within, kept.within)) ∙ sym (le-ltb (rows table) n (omega (arith, e)))
 
   pub not_long : (whole : whole_rows table ≡ true) → is_long (rows (longer height table)) ≡ is_long (rows table)
   not_long whole =
-      ap not (le-leb (rows (longer height table)) 4194304 (omega (arith, longer-rows height table whole kept.within, kept.short)) ∙ sym (le-leb (rows table) 4194304 (omega (arith, kept.within, kept.short))))
+      ap not (le-leb (rows (longer height table)) 4194304 (omega (arith, longer_rows height table whole kept.within, kept.short)) ∙ sym (le-leb (rows table) 4194304 (omega (arith, kept.within, kept.short))))
 
 module _ (trace op_stack ram jump_stack table : List ℕ) (height : ℕ) (whole : whole_rows table ≡ true) (kept : Kept (rows trace) (rows table) height) where
   abbrev answer_in : List ℕ → Answer
@@ -52,34 +52,34 @@ module _ (trace op_stack ram jump_stack table : List ℕ) (height : ℕ) (whole 
   same_answer = go (ltb (rows table) height) refl
     where
       go : (b : Bool) → ltb (rows table) height ≡ b → answer_in (longer height table) ≡ answer_in table
-      go false e = ap answer_in (all-at-hand (rows trace) table height kept (ltb-false (rows table) height e))
+      go false e = ap answer_in (all_at_hand (rows trace) table height kept (ltb-false (rows table) height e))
       go true e =
-          λ i. by_tests ((longer-whole height table whole kept.within ∙ sym whole) i) (not_long (rows trace) table height kept whole i)
-          (not-shorter (rows trace) table height kept whole (ltb-true (rows table) height e) i)
+          λ i. by_tests ((longer_whole height table whole kept.within ∙ sym whole) i) (not_long (rows trace) table height kept whole i)
+          (not_shorter (rows trace) table height kept whole (ltb-true (rows table) height e) i)
 
   abbrev counted : ℕ → ℕ
   counted = multiplicity op_stack ram jump_stack
 
-  filled-length : Accepted trace op_stack ram jump_stack table → length (filled trace counted table) ≡ length table
+  filled_length : Accepted trace op_stack ram jump_stack table → length (filled trace counted table) ≡ length table
   unfolding filled
-  filled-length a =
+  filled_length a =
       let front = length-rows 39 (filled_row trace counted) 0 (rows trace) (λ k l h. length-set (row_at trace k) 38 (counted k) ∙ length-row trace k (omega (arith, h))) in
       length-append (rows_from (filled_row trace counted) 0 (rows trace)) (drop (length trace) table)
       ∙ omega (arith, front, length-drop (length trace) table, a.whole, a.fits)
 
-  done-table : Accepted trace op_stack ram jump_stack table → filled trace counted (longer height table) ≡ longer height (filled trace counted table)
+  done_table : Accepted trace op_stack ram jump_stack table → filled trace counted (longer height table) ≡ longer height (filled trace counted table)
   unfolding longer filled
-  done-table a =
+  done_table a =
       let zs = zeros ((height - rows table) * 39) in
       let front = rows_from (filled_row trace counted) 0 (rows trace) in
       ap (λ l. front ++ l) (drop-within (length trace) table zs (omega (arith, a.whole, a.fits)))
       ∙ sym (append_assoc front (drop (length trace) table) zs)
-      ∙ ap (λ (n : ℕ). (front ++ drop (length trace) table) ++ zeros ((height - n / 39) * 39)) (sym (filled-length a))
+      ∙ ap (λ (n : ℕ). (front ++ drop (length trace) table) ++ zeros ((height - n / 39) * 39)) (sym (filled_length a))
 
-  pub same-table : fill_table trace op_stack ram jump_stack (longer height table) ≡ longer height (fill_table trace op_stack ram jump_stack table)
+  pub same_table : fill_table trace op_stack ram jump_stack (longer height table) ≡ longer height (fill_table trace op_stack ram jump_stack table)
   unfolding fill_table
-  same-table = ap (λ a. on_done a (filled trace counted (longer height table)) (longer height table)) same_answer ∙ go (answer_in table) refl
+  same_table = ap (λ a. on_done a (filled trace counted (longer height table)) (longer height table)) same_answer ∙ go (answer_in table) refl
     where
       go : (a : Answer) → answer_in table ≡ a → on_done a (filled trace counted (longer height table)) (longer height table) ≡ longer height (on_done a (filled trace counted table) table)
-      go Done e = done-table (accepted trace op_stack ram jump_stack table e)
+      go Done e = done_table (accepted trace op_stack ram jump_stack table e)
       go (Refused refusal) e = refl

@@ -17,32 +17,32 @@ use Rattle.batch.specs.Lent.{zeros}
 use Rattle.batch_reader.specs.declared.Counts.{Counts}
 use Rattle.batch_reader.specs.declared.OpenAnswer.{OpenAnswer}
 use Rattle.batch_reader.specs.declared.OpenAnswer.TheVariants.{Opened, Refused as NotOpened}
-use Rattle.terminals_extended.specs.Extended.{extendedAnswer}
+use Rattle.terminals_extended.specs.Extended.{extended_answer}
 use Rattle.terminals_walk.proofs.LastRow as extended
-use Rattle.terminals_cells.specs.Terminals.{after, paddedAnswer, paddedCells, filledAnswer, filledCells, tableAnswer, tableCells, openedAnswer, openedCells, answer_after, cells_after, terminals_answer, terminals_cells}
+use Rattle.terminals_cells.specs.Terminals.{after, padded_answer, padded_cells, filled_answer, filled_cells, table_answer, table_cells, opened_answer, opened_cells, answer_after, cells_after, terminals_answer, terminals_cells}
 
 then_done : (a b : Answer) → after a b ≡ Done → b ≡ Done
 then_done Done b e = e
 then_done (Refused refusal) b e = let z : ◌≡◌ {A = ℕ} 0 1 = cc in absurd (omega arith)
 
-padded_long : (table : List ℕ) (len : ℕ) (challenges : List ℕ) → paddedAnswer table len challenges ≡ Done → length (paddedCells table len challenges) ≡ 33
-unfolding paddedAnswer paddedCells
-padded_long table len challenges e = extended.cells_long (pad_table table len) challenges (then_done (pad_answer table len) (extendedAnswer (pad_table table len) challenges) e)
+padded_long : (table : List ℕ) (len : ℕ) (challenges : List ℕ) → padded_answer table len challenges ≡ Done → length (padded_cells table len challenges) ≡ 33
+unfolding padded_answer padded_cells
+padded_long table len challenges e = extended.cells_long (pad_table table len) challenges (then_done (pad_answer table len) (extended_answer (pad_table table len) challenges) e)
 
 module _ (trace op_stack ram jump_stack challenges : List ℕ) where
-  filled-long : (table : List ℕ) → filledAnswer trace op_stack ram jump_stack challenges table ≡ Done → length (filledCells trace op_stack ram jump_stack challenges table) ≡ 33
-  unfolding filledAnswer filledCells
-  filled-long table e =
+  filled_long : (table : List ℕ) → filled_answer trace op_stack ram jump_stack challenges table ≡ Done → length (filled_cells trace op_stack ram jump_stack challenges table) ≡ 33
+  unfolding filled_answer filled_cells
+  filled_long table e =
       let filled = fill_table trace op_stack ram jump_stack table in
-      padded_long filled (rows trace) challenges (then_done (fill_answer trace op_stack ram jump_stack table) (paddedAnswer filled (rows trace) challenges) e)
+      padded_long filled (rows trace) challenges (then_done (fill_answer trace op_stack ram jump_stack table) (padded_answer filled (rows trace) challenges) e)
 
-  table-long : (k : ℕ) → tableAnswer k trace op_stack ram jump_stack challenges ≡ Done → length (tableCells k trace op_stack ram jump_stack challenges) ≡ 33
-  unfolding tableAnswer tableCells
-  table-long k e = filled-long (zeros (padded_height k (rows trace) * 39)) e
+  table_long : (k : ℕ) → table_answer k trace op_stack ram jump_stack challenges ≡ Done → length (table_cells k trace op_stack ram jump_stack challenges) ≡ 33
+  unfolding table_answer table_cells
+  table_long k e = filled_long (zeros (padded_height k (rows trace) * 39)) e
 
 opened_long : (counts : Counts) (trace op_stack ram jump_stack sampled digest input output : List ℕ)
-    → openedAnswer counts trace op_stack ram jump_stack sampled digest input output ≡ Done → length (openedCells counts trace op_stack ram jump_stack sampled digest input output) ≡ 33
-unfolding openedAnswer openedCells
+    → opened_answer counts trace op_stack ram jump_stack sampled digest input output ≡ Done → length (opened_cells counts trace op_stack ram jump_stack sampled digest input output) ≡ 33
+unfolding opened_answer opened_cells
 opened_long counts trace op_stack ram jump_stack sampled digest input output e =
     let read = take counts.input input in
     let wrote = take counts.output output in
@@ -51,8 +51,8 @@ opened_long counts trace op_stack ram jump_stack sampled digest input output e =
     let o = take counts.op_stack op_stack in
     let r = take counts.ram ram in
     let j = take counts.jump_stack jump_stack in
-    table-long rows-sent o r j derived counts.log2_height
-    (then_done (challenges_answer sampled digest read wrote (zeros RECORD-WORDS)) (tableAnswer counts.log2_height rows-sent o r j derived) e)
+    table_long rows-sent o r j derived counts.log2_height
+    (then_done (challenges_answer sampled digest read wrote (zeros RECORD-WORDS)) (table_answer counts.log2_height rows-sent o r j derived) e)
 
 long_after : (a : OpenAnswer) (batch : List ℕ) → answer_after a batch ≡ Done → length (cells_after a batch) ≡ 33
 long_after (NotOpened refusal) batch e = let z : ◌≡◌ {A = ℕ} 0 1 = cc in absurd (omega arith)

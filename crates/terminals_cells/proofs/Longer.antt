@@ -42,15 +42,15 @@ module _ (height : ℕ) (table : List ℕ) (whole : whole_rows table ≡ true) (
   pub length-table : length table ≡ rows table * 39
   length-table = let e = eqb-true (length table % 39) 0 whole in omega (arith, e)
 
-  pub longer-length : length (longer height table) ≡ height * 39
+  pub longer_length : length (longer height table) ≡ height * 39
   unfolding longer
-  longer-length = length-append table (zeros ((height - rows table) * 39)) ∙ omega (arith, length-table, length-zeros ((height - rows table) * 39))
+  longer_length = length-append table (zeros ((height - rows table) * 39)) ∙ omega (arith, length-table, length-zeros ((height - rows table) * 39))
 
-  pub longer-rows : rows (longer height table) ≡ height
-  longer-rows = omega (arith, longer-length)
+  pub longer_rows : rows (longer height table) ≡ height
+  longer_rows = omega (arith, longer_length)
 
-  pub longer-whole : whole_rows (longer height table) ≡ true
-  longer-whole = eq-eqb (length (longer height table) % 39) 0 (omega (arith, longer-length))
+  pub longer_whole : whole_rows (longer height table) ≡ true
+  longer_whole = eq-eqb (length (longer height table) % 39) 0 (omega (arith, longer_length))
 
 -- nothing is added where all rows are at hand
 pub longer_same : (table : List ℕ) → longer (rows table) table ≡ table

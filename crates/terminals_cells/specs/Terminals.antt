@@ -14,7 +14,7 @@ use Rattle.batch_reader.specs.declared.OpenAnswer.TheVariants.{Opened, Refused a
 use Rattle.batch_commands.specs.Format.{ROW, OP-STACK, RAM, JUMP-STACK, SAMPLED, DIGEST, INPUT, OUTPUT, MAX-DIFFERENCES, MAX-WORDS}
 use Rattle.batch.specs.Open.{TRACE-WORDS, open_answer, open_slice}
 use Rattle.batch.specs.Lent.{zeros}
-use Rattle.terminals_extended.specs.Extended.{extendedAnswer, extendedCells}
+use Rattle.terminals_extended.specs.Extended.{extended_answer, extended_cells}
 use Rattle.table_pad.specs.Height.{padded_height}
 
 -- the first refusal of two operations
@@ -24,45 +24,45 @@ after (Refused refusal) next = Refused refusal
 
 -- pad, then extend
 module _ (table : List ℕ) (len : ℕ) (challenges : List ℕ) where
-  unfoldable pub paddedAnswer : Answer
-  paddedAnswer = after (pad_answer table len) (extendedAnswer (pad_table table len) challenges)
+  unfoldable pub padded_answer : Answer
+  padded_answer = after (pad_answer table len) (extended_answer (pad_table table len) challenges)
 
-  unfoldable pub paddedCells : List ℕ
-  paddedCells = extendedCells (pad_table table len) challenges
+  unfoldable pub padded_cells : List ℕ
+  padded_cells = extended_cells (pad_table table len) challenges
 
 -- fill, pad and extend
 module _ (trace op_stack ram jump_stack challenges table : List ℕ) where
-  unfoldable pub filledAnswer : Answer
-  filledAnswer =
+  unfoldable pub filled_answer : Answer
+  filled_answer =
       after (fill_answer trace op_stack ram jump_stack table)
-      (paddedAnswer (fill_table trace op_stack ram jump_stack table) (rows trace) challenges)
+      (padded_answer (fill_table trace op_stack ram jump_stack table) (rows trace) challenges)
 
-  unfoldable pub filledCells : List ℕ
-  filledCells = paddedCells (fill_table trace op_stack ram jump_stack table) (rows trace) challenges
+  unfoldable pub filled_cells : List ℕ
+  filled_cells = padded_cells (fill_table trace op_stack ram jump_stack table) (rows trace) challenges
 
 -- the same in the table that holds the trace, or has 2^k rows
 module _ (k : ℕ) (trace op_stack ram jump_stack challenges : List ℕ) where
-  unfoldable pub tableAnswer : Answer
-  tableAnswer = filledAnswer trace op_stack ram jump_stack challenges (zeros (padded_height k (rows trace) * MAIN-WIDTH))
+  unfoldable pub table_answer : Answer
+  table_answer = filled_answer trace op_stack ram jump_stack challenges (zeros (padded_height k (rows trace) * MAIN-WIDTH))
 
-  unfoldable pub tableCells : List ℕ
-  tableCells = filledCells trace op_stack ram jump_stack challenges (zeros (padded_height k (rows trace) * MAIN-WIDTH))
+  unfoldable pub table_cells : List ℕ
+  table_cells = filled_cells trace op_stack ram jump_stack challenges (zeros (padded_height k (rows trace) * MAIN-WIDTH))
 
 -- the slices up to the counts: derive the challenges, fill, pad and extend
 module _ (counts : Counts) (trace op_stack ram jump_stack sampled digest input output : List ℕ) where
-  unfoldable pub openedAnswer : Answer
-  openedAnswer =
+  unfoldable pub opened_answer : Answer
+  opened_answer =
       let read = take counts.input input in
       let wrote = take counts.output output in
       after (challenges_answer sampled digest read wrote (zeros RECORD-WORDS))
-      (tableAnswer counts.log2_height (take (counts.rows * MAIN-WIDTH) trace) (take counts.op_stack op_stack) (take counts.ram ram) (take counts.jump_stack jump_stack)
+      (table_answer counts.log2_height (take (counts.rows * MAIN-WIDTH) trace) (take counts.op_stack op_stack) (take counts.ram ram) (take counts.jump_stack jump_stack)
       (challenges_record sampled digest read wrote (zeros RECORD-WORDS)))
 
-  unfoldable pub openedCells : List ℕ
-  openedCells =
+  unfoldable pub opened_cells : List ℕ
+  opened_cells =
       let read = take counts.input input in
       let wrote = take counts.output output in
-      tableCells counts.log2_height (take (counts.rows * MAIN-WIDTH) trace) (take counts.op_stack op_stack) (take counts.ram ram) (take counts.jump_stack jump_stack)
+      table_cells counts.log2_height (take (counts.rows * MAIN-WIDTH) trace) (take counts.op_stack op_stack) (take counts.ram ram) (take counts.jump_stack jump_stack)
       (challenges_record sampled digest read wrote (zeros RECORD-WORDS))
 
 -- with what opening leaves in slices of zeros
@@ -70,13 +70,13 @@ abbrev pub answer_after : OpenAnswer → List ℕ → Answer
 answer_after (NotOpened refusal) batch = Refused refusal
 answer_after (Opened counts) batch =
     let slice : ℕ → ℕ → List ℕ = λ code n. open_slice (Opened counts) code batch (zeros n) in
-    openedAnswer counts (slice ROW TRACE-WORDS) (slice OP-STACK MAX-DIFFERENCES) (slice RAM MAX-DIFFERENCES) (slice JUMP-STACK MAX-DIFFERENCES) (slice SAMPLED SAMPLED-WORDS) (slice DIGEST DIGEST-WORDS) (slice INPUT MAX-WORDS) (slice OUTPUT MAX-WORDS)
+    opened_answer counts (slice ROW TRACE-WORDS) (slice OP-STACK MAX-DIFFERENCES) (slice RAM MAX-DIFFERENCES) (slice JUMP-STACK MAX-DIFFERENCES) (slice SAMPLED SAMPLED-WORDS) (slice DIGEST DIGEST-WORDS) (slice INPUT MAX-WORDS) (slice OUTPUT MAX-WORDS)
 
 abbrev pub cells_after : OpenAnswer → List ℕ → List ℕ
 cells_after (NotOpened refusal) batch = []
 cells_after (Opened counts) batch =
     let slice : ℕ → ℕ → List ℕ = λ code n. open_slice (Opened counts) code batch (zeros n) in
-    openedCells counts (slice ROW TRACE-WORDS) (slice OP-STACK MAX-DIFFERENCES) (slice RAM MAX-DIFFERENCES) (slice JUMP-STACK MAX-DIFFERENCES) (slice SAMPLED SAMPLED-WORDS) (slice DIGEST DIGEST-WORDS) (slice INPUT MAX-WORDS) (slice OUTPUT MAX-WORDS)
+    opened_cells counts (slice ROW TRACE-WORDS) (slice OP-STACK MAX-DIFFERENCES) (slice RAM MAX-DIFFERENCES) (slice JUMP-STACK MAX-DIFFERENCES) (slice SAMPLED SAMPLED-WORDS) (slice DIGEST DIGEST-WORDS) (slice INPUT MAX-WORDS) (slice OUTPUT MAX-WORDS)
 
 unfoldable pub terminals_answer : List ℕ → Answer
 terminals_answer batch = answer_after (open_answer batch TRACE-WORDS MAX-DIFFERENCES MAX-DIFFERENCES MAX-DIFFERENCES SAMPLED-WORDS DIGEST-WORDS MAX-WORDS MAX-WORDS) batch

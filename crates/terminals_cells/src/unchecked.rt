@@ -6,7 +6,7 @@ ghost use Rattle.table_rows.specs.Rows.{whole_rows, rows};
 ghost use Rattle.batch_commands.specs.Format.{MAX-ROWS, MAX-LOG-2-HEIGHT};
 ghost use Rattle.batch.specs.Lent.{Within};
 ghost use Rattle.batch.specs.Open.{TRACE-WORDS};
-ghost use Rattle.terminals_cells.specs.Terminals.{paddedAnswer, paddedCells, filledAnswer, filledCells, tableAnswer, tableCells, openedAnswer, openedCells};
+ghost use Rattle.terminals_cells.specs.Terminals.{padded_answer, padded_cells, filled_answer, filled_cells, table_answer, table_cells, opened_answer, opened_cells};
 ghost use Rattle.terminals_cells.specs.Kept.{Kept, longer};
 
 use air::{AUX_WORDS, MainIndex, RECORD_WORDS};
@@ -28,8 +28,8 @@ fn padded_cells(
 ) -> Answer
     requires table_value { whole_rows table.old ≡ true }
     requires kept { Kept table_len (rows table.old) height }
-    ensures answer { result ≡ paddedAnswer (longer height table.old) table_len challenges.now }
-    ensures cells { cells.new ≡ on_done result (paddedCells (longer height table.old) table_len challenges.now) cells.old }
+    ensures answer { result ≡ padded_answer (longer height table.old) table_len challenges.now }
+    ensures cells { cells.new ≡ on_done result (padded_cells (longer height table.old) table_len challenges.now) cells.old }
 {
     let answer = table_pad::pad(table, table_len);
     match answer {
@@ -55,8 +55,8 @@ fn filled_cells(
 ) -> Answer
     requires table_value { whole_rows table.old ≡ true }
     requires kept { Kept (rows trace.now) (rows table.old) height }
-    ensures answer { result ≡ filledAnswer trace.now op_stack.now ram.now jump_stack.now challenges.now (longer height table.old) }
-    ensures cells { cells.new ≡ on_done result (filledCells trace.now op_stack.now ram.now jump_stack.now challenges.now (longer height table.old)) cells.old }
+    ensures answer { result ≡ filled_answer trace.now op_stack.now ram.now jump_stack.now challenges.now (longer height table.old) }
+    ensures cells { cells.new ≡ on_done result (filled_cells trace.now op_stack.now ram.now jump_stack.now challenges.now (longer height table.old)) cells.old }
 {
     let answer = table_fill::fill(trace, op_stack, ram, jump_stack, table);
     match answer {
@@ -89,8 +89,8 @@ fn table_cells(
     cells: &mut [u64; AUX_WORDS],
 ) -> Answer
     requires { (log2_height ≤ MAX-LOG-2-HEIGHT) × (rows trace.now ≤ MAX-ROWS) }
-    ensures answer { result ≡ tableAnswer log2_height trace.now op_stack.now ram.now jump_stack.now challenges.now }
-    ensures cells { cells.new ≡ on_done result (tableCells log2_height trace.now op_stack.now ram.now jump_stack.now challenges.now) cells.old }
+    ensures answer { result ≡ table_answer log2_height trace.now op_stack.now ram.now jump_stack.now challenges.now }
+    ensures cells { cells.new ≡ on_done result (table_cells log2_height trace.now op_stack.now ram.now jump_stack.now challenges.now) cells.old }
 {
     let mut table = [0u64; MAX_KEPT * MainIndex::COUNT];
     let rows = trace.len() / MainIndex::COUNT;
@@ -122,8 +122,8 @@ pub fn opened_cells(
 ) -> Answer
     requires within { Within counts (length trace.now) (length op_stack.now) (length ram.now) (length jump_stack.now) (length input.now) (length output.now) }
     requires trace_len_bound { length trace.now ≤ TRACE-WORDS }
-    ensures answer { result ≡ openedAnswer counts trace.now op_stack.now ram.now jump_stack.now sampled.now digest.now input.now output.now }
-    ensures cells { cells.new ≡ on_done result (openedCells counts trace.now op_stack.now ram.now jump_stack.now sampled.now digest.now input.now output.now) cells.old }
+    ensures answer { result ≡ opened_answer counts trace.now op_stack.now ram.now jump_stack.now sampled.now digest.now input.now output.now }
+    ensures cells { cells.new ≡ on_done result (opened_cells counts trace.now op_stack.now ram.now jump_stack.now sampled.now digest.now input.now output.now) cells.old }
 {
     let input_end = counts.input;
     let output_end = counts.output;

@@ -19,8 +19,8 @@ module _ (main challenges : List ℕ) where
   abbrev work : List ℕ
   work = zeros (started_chunks (rows main) 4 * WORK-WORDS)
 
-  unfoldable pub extendedAnswer : Answer
-  extendedAnswer = extend_answer main challenges 4 aux work
+  unfoldable pub extended_answer : Answer
+  extended_answer = extend_answer main challenges 4 aux work
 
-  unfoldable pub extendedCells : List ℕ
-  extendedCells = last_row (extend_aux main challenges 4 aux work)
+  unfoldable pub extended_cells : List ℕ
+  extended_cells = last_row (extend_aux main challenges 4 aux work)

@@ -6,7 +6,7 @@ ghost use Rattle.table_rows.specs.Rows.{rows};
 ghost use Rattle.extend_answer.specs.Answer.{extend_answer};
 ghost use Rattle.extend.specs.Extend.{extend_aux};
 ghost use Rattle.batch_commands.specs.Format.{MAX-ROWS};
-ghost use Rattle.terminals_extended.specs.Extended.{last_row, extendedAnswer, extendedCells};
+ghost use Rattle.terminals_extended.specs.Extended.{last_row, extended_answer, extended_cells};
 
 use air::{AUX_WORDS, MainIndex};
 use batch_commands::MAX_ROWS;
@@ -55,8 +55,8 @@ fn extended_into(
 
 pub fn extended_cells(main: &[u64], challenges: &[u64], cells: &mut [u64; AUX_WORDS]) -> Answer
     requires { (1 ≤ rows main.now) × (rows main.now ≤ MAX-ROWS + 2) }
-    ensures answer { result ≡ extendedAnswer main.now challenges.now }
-    ensures cells { cells.new ≡ on_done result (extendedCells main.now challenges.now) cells.old }
+    ensures answer { result ≡ extended_answer main.now challenges.now }
+    ensures cells { cells.new ≡ on_done result (extended_cells main.now challenges.now) cells.old }
 {
     let rows = main.len() / MainIndex::COUNT;
     let mut aux = [0u64; MAX_KEPT * AUX_WORDS];

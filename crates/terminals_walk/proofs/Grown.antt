@@ -18,7 +18,7 @@ use Rattle.column_entries.specs.Denominators.{zero_up_to, zero_denominator}
 use Rattle.column_steps.specs.Walk.{MainRows}
 use Rattle.extend_fractions.specs.declared.Fractions.{Fractions}
 use Rattle.extend_fractions.specs.Fractions.{fractions_of}
-use Rattle.extend_denominators.proofs.Rows.{fractions_at, zero-goes-on}
+use Rattle.extend_denominators.proofs.Rows.{fractions_at, zero_goes_on}
 use Rattle.extend_padding.proofs.Padding.{padding_below, padding_fractions, window_fractions}
 use Rattle.terminals_walk.specs.Grown.{grown, EndsInPadding, Growing}
 
@@ -42,42 +42,42 @@ module _ (main : List ℕ) (height : ℕ) (growing : Growing main height) where
   pub kept_row : (k : ℕ) → k < kept → row k ≡ row_at main k
   kept_row k h = rw (lt-ltb k kept h)
 
-  pub padding-from : (k : ℕ) → kept ≤ k → row k ≡ padding_row last k
-  padding-from k h = rw (le-ltb k kept h)
+  pub padding_from : (k : ℕ) → kept ≤ k → row k ≡ padding_row last k
+  padding_from k h = rw (le-ltb k kept h)
 
   length-padding : (k : ℕ) → length (padding_row last k) ≡ 39
   length-padding k = length-set (set (set last 1 1) 38 0) 0 k ∙ length-set (set last 1 1) 38 0 ∙ length-set last 1 1 ∙ length_last
 
-  row-length : (k : ℕ) (b : Bool) → ltb k kept ≡ b → length (row k) ≡ 39
-  row-length k true e = rw e (length-row main k (omega (arith, length-main, ltb-true k kept e)))
-  row-length k false e = rw e (length-padding k)
+  row_length : (k : ℕ) (b : Bool) → ltb k kept ≡ b → length (row k) ≡ 39
+  row_length k true e = rw e (length-row main k (omega (arith, length-main, ltb-true k kept e)))
+  row_length k false e = rw e (length-padding k)
 
-  pub main-rows : (n : ℕ) → MainRows row n
-  main-rows n k h = row-length k (ltb k kept) refl
+  pub main_rows : (n : ℕ) → MainRows row n
+  main_rows n k h = row_length k (ltb k kept) refl
 
   -- the table begins with its own rows
   pub begins : rows_from row 0 kept ≡ main
   begins = same_rows row (row_at main) 0 kept (λ k l m. kept_row k (omega arith)) ∙ rows_of main 0 kept ∙ take_all (kept * 39) main (omega (arith, length-main))
 
-  pub grown-length : length (grown height main) ≡ height * 39
+  pub grown_length : length (grown height main) ≡ height * 39
   unfolding grown
-  grown-length = length-rows 39 row 0 height (λ k l h. main-rows height k (omega arith))
+  grown_length = length-rows 39 row 0 height (λ k l h. main_rows height k (omega arith))
 
-  pub grown-whole : whole_rows (grown height main) ≡ true
-  grown-whole = eq-eqb (length (grown height main) % 39) 0 (omega (arith, grown-length))
+  pub grown_whole : whole_rows (grown height main) ≡ true
+  grown_whole = eq-eqb (length (grown height main) % 39) 0 (omega (arith, grown_length))
 
-  pub grown-height : rows (grown height main) ≡ height
-  grown-height = omega (arith, grown-length)
+  pub grown_height : rows (grown height main) ≡ height
+  grown_height = omega (arith, grown_length)
 
   -- its words
   row_below : all_below main ≡ true → (k : ℕ) → k < height → (b : Bool) → ltb k kept ≡ b → all_below (row k) ≡ true
   row_below below k h true e = rw e (below_take 39 (drop (k * 39) main) (below_drop (k * 39) main below))
   row_below below k h false e = rw e (padding_below last k (omega (arith, growing.short)) (below_take 39 (drop ((kept - 1) * 39) main) (below_drop ((kept - 1) * 39) main below)))
 
-  rows-below : (c n : ℕ) → c + n ≤ height → all_below main ≡ true → all_below (rows_from row c n) ≡ true
+  rows_below : (c n : ℕ) → c + n ≤ height → all_below main ≡ true → all_below (rows_from row c n) ≡ true
   unfolding rows_from all_below
-  rows-below c zero h below = refl
-  rows-below c (suc n) h below = below_append (row c) (rows_from row (suc c) n) (row_below below c (omega arith) (ltb c kept) refl) (rows-below (suc c) n (omega arith) below)
+  rows_below c zero h below = refl
+  rows_below c (suc n) h below = below_append (row c) (rows_from row (suc c) n) (row_below below c (omega arith) (ltb c kept) refl) (rows_below (suc c) n (omega arith) below)
 
   first_rows : grown height main ≡ main ++ rows_from row kept (height - kept)
   unfolding grown
@@ -85,12 +85,12 @@ module _ (main : List ℕ) (height : ℕ) (growing : Growing main height) where
       let e : height ≡ kept + (height - kept) = omega (arith, growing.within) in
       ap (rows_from row 0) e ∙ split_rows row 0 kept (height - kept) ∙ rw (number.zero-add kept) (ap (λ l. l ++ rows_from row kept (height - kept)) begins)
 
-  pub grown-below : all_below (grown height main) ≡ all_below main
+  pub grown_below : all_below (grown height main) ≡ all_below main
   unfolding grown
-  grown-below = go (all_below main) refl (all_below (grown height main)) refl
+  grown_below = go (all_below main) refl (all_below (grown height main)) refl
     where
       go : (b : Bool) → all_below main ≡ b → (b' : Bool) → all_below (grown height main) ≡ b' → all_below (grown height main) ≡ all_below main
-      go true e b' e' = rows-below 0 height (omega arith) e ∙ sym e
+      go true e b' e' = rows_below 0 height (omega arith) e ∙ sym e
       go false e true e' = absurd (true≢false (sym (below_parts main (rows_from row kept (height - kept)) (ap all_below (sym first_rows) ∙ e')).0 ∙ e))
       go false e false e' = e' ∙ sym e
 
@@ -104,7 +104,7 @@ module _ (main : List ℕ) (height : ℕ) (growing : Growing main height) where
       where
         go : (b : Bool) → ltb k kept ≡ b → row k ≡ padding_row last k
         go true e = let here : kept - 1 ≡ k = omega (arith, h, ltb-true k kept e) in kept_row k (ltb-true k kept e) ∙ subst (λ (j : ℕ). row_at main j ≡ padding_row last j) here ends.last
-        go false e = padding-from k (ltb-false k kept e)
+        go false e = padding_from k (ltb-false k kept e)
 
     later : (k : ℕ) → kept ≤ k → fractions_at challenges row k ≡ repeated
     later zero h = absurd (omega (arith, h, growing.some))
@@ -116,20 +116,20 @@ module _ (main : List ℕ) (height : ℕ) (growing : Growing main height) where
     at_last =
         let k = kept - 2 in
         let e : kept - 1 ≡ suc k = omega (arith, ends.three) in
-        let one-before = kept_row k (omega (arith, ends.three)) ∙ ends.before in
+        let one_before = kept_row k (omega (arith, ends.three)) ∙ ends.before in
         ap (fractions_at challenges row) e
-        ∙ (λ i. fractions_of challenges (one-before i) (from_last (suc k) (omega (arith, ends.three)) i))
+        ∙ (λ i. fractions_of challenges (one_before i) (from_last (suc k) (omega (arith, ends.three)) i))
         ∙ window_fractions challenges last length_last ends.multiplicity k (suc k) 0 0
 
-    pub zero-grown : zero_denominator (grown height main) challenges ≡ zero_denominator main challenges
+    pub zero_grown : zero_denominator (grown height main) challenges ≡ zero_denominator main challenges
     unfolding grown
-    zero-grown =
+    zero_grown =
         let r = kept - 1 in
         let n = height - kept in
         let all : suc r + n ≡ height = omega (arith, growing.some, growing.within) in
         let own : suc r ≡ kept = omega (arith, growing.some) in
-        ap (zero_up_to challenges (grown height main)) grown-height
+        ap (zero_up_to challenges (grown height main)) grown_height
         ∙ ap (λ (k : ℕ). zero_up_to challenges (rows_from row 0 k) k) (sym all)
-        ∙ zero-goes-on challenges row r n (main-rows (suc r + n)) (λ k l m. later k (omega (arith, l, own)) ∙ sym at_last)
+        ∙ zero_goes_on challenges row r n (main_rows (suc r + n)) (λ k l m. later k (omega (arith, l, own)) ∙ sym at_last)
         ∙ ap (λ (k : ℕ). zero_up_to challenges (rows_from row 0 k) k) own
         ∙ ap (λ t. zero_up_to challenges t kept) begins

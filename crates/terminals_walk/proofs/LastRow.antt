@@ -25,7 +25,7 @@ use Rattle.extend_answer.specs.Answer.{extend_answer}
 use Rattle.extend_answer.proofs.Accepted.{passed}
 use Rattle.extend.specs.Extend.{extend_aux}
 use Rattle.batch.specs.Lent.{zeros}
-use Rattle.terminals_extended.specs.Extended.{last_row, extendedAnswer, extendedCells}
+use Rattle.terminals_extended.specs.Extended.{last_row, extended_answer, extended_cells}
 use Rattle.terminals_extended.proofs.Zeros.{length-zeros}
 
 -- a table of whole rows, and not of none
@@ -39,8 +39,8 @@ by_tests record-whole below zero =
     cond (not record-whole) (Refused SliceLength) (cond (not below) (Refused WordNotBelowP) (cond zero (Refused ZeroDenominator) Done))
 
 module _ (main challenges : List ℕ) (table : Table main) where
-  pub answer : rows main ≤ 4194304 → extendedAnswer main challenges ≡ by_tests (eqb (length challenges) RECORD-WORDS) (all_below main && all_below challenges) (zero_denominator main challenges)
-  unfolding extendedAnswer extend_answer
+  pub answer : rows main ≤ 4194304 → extended_answer main challenges ≡ by_tests (eqb (length challenges) RECORD-WORDS) (all_below main && all_below challenges) (zero_denominator main challenges)
+  unfolding extended_answer extend_answer
   answer short =
       rw (
         table.whole,
@@ -57,8 +57,8 @@ module _ (main challenges : List ℕ) (table : Table main) where
       ap last_row (one_more_row f n)
       ∙ drop_at front (f n) (length (front ++ f n) - 33) (omega (arith, len, length-append front (f n), whole n))
 
-  pub cells : extendedAnswer main challenges ≡ Done → extendedCells main challenges ≡ aux_row (λ c. running c challenges main (rows main))
-  unfolding extendedAnswer extendedCells extend_aux extended
+  pub cells : extended_answer main challenges ≡ Done → extended_cells main challenges ≡ aux_row (λ c. running c challenges main (rows main))
+  unfolding extended_answer extended_cells extend_aux extended
   cells done =
       let n = rows main - 1 in
       let e : rows main ≡ n + 1 = omega (arith, table.some) in
@@ -69,8 +69,8 @@ module _ (main challenges : List ℕ) (table : Table main) where
       ∙ ap (λ (k : ℕ). aux_row (λ c. running c challenges main k)) s
 
 -- where extension is done, its last row has 33 words
-pub cells_long : (main challenges : List ℕ) → extendedAnswer main challenges ≡ Done → length (extendedCells main challenges) ≡ 33
-unfolding extendedAnswer
+pub cells_long : (main challenges : List ℕ) → extended_answer main challenges ≡ Done → length (extended_cells main challenges) ≡ 33
+unfolding extended_answer
 cells_long main challenges done =
     let accepted = passed main challenges 4 _ _ done in
     let some = eqb-false (rows main) 0 accepted.some_row in

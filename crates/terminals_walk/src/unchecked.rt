@@ -3,7 +3,7 @@ ghost use Rattle.std.specs.Prelude.{◌≡◌, ◌+◌, ◌-◌, ◌≤◌};
 ghost use Rattle.refusal.specs.Number.{on_done};
 ghost use Rattle.table_rows.specs.Rows.{rows};
 ghost use Rattle.batch_commands.specs.Format.{MAX-ROWS};
-ghost use Rattle.terminals_extended.specs.Extended.{extendedAnswer, extendedCells};
+ghost use Rattle.terminals_extended.specs.Extended.{extended_answer, extended_cells};
 ghost use Rattle.terminals_walk.specs.Grown.{grown, Growing};
 
 use air::{AUX_WORDS, MainIndex};
@@ -30,8 +30,8 @@ pub fn walked_cells(
 ) -> Answer
     requires growing { Growing main.now height }
     requires main_bound { rows main.now ≤ MAX-ROWS + 2 }
-    ensures answer { result ≡ extendedAnswer (grown height main.now) challenges.now }
-    ensures cells { cells.new ≡ on_done result (extendedCells (grown height main.now) challenges.now) cells.old }
+    ensures answer { result ≡ extended_answer (grown height main.now) challenges.now }
+    ensures cells { cells.new ≡ on_done result (extended_cells (grown height main.now) challenges.now) cells.old }
 {
     let rows = main.len() / MainIndex::COUNT;
     let answer = extended_cells(main, challenges, cells);

@@ -3,7 +3,7 @@ use mathlib.Core.Path.{◌≡◌, refl, ap, sym, ◌∙◌}
 use mathlib.Core.Logic.{◌≢◌}
 use mathlib.Core.List.{List, [], ◌∷◌, map}
 use Rattle.algebra.proofs.RingLaws.{zero-add, one-mul}
-use Rattle.algebra.proofs.FieldLaws.{unit-unique}
+use Rattle.algebra.proofs.FieldLaws.{unit_unique}
 use Rattle.algebra.proofs.Elements.{ElementRing as R, zero_below}
 use Rattle.algebra.proofs.ElementField.{element_field as K}
 use Rattle.field.specs.Element.{lift, zero, one, sum, difference, product, scale, inverse}
@@ -57,7 +57,7 @@ into-denominator x e ne z = ne (into-injective (difference_canonical x e) zero_b
 
 into-over : (a : XFieldElement) → into a ≢ o → into (inverse a) ≡ ring-sum.inverse R K (into a)
 into-over a ne =
-    unit-unique R (into a) (into (inverse a)) (ring-sum.inverse R K (into a))
+    unit_unique R (into a) (into (inverse a)) (ring-sum.inverse R K (into a))
     (into-inverse a ne) (ring-sum.mul-inverse R K (into a) ne)
 
 into-fraction : (x : XFieldElement) (f : Fraction) → difference x f.symbol ≢ zero

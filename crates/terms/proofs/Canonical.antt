@@ -51,13 +51,13 @@ row_below : (table : List ℕ) → Words table → (r : ℕ) → Words (row_at t
 row_below table h r = All-take (λ w. w < p) 39 (drop (r * 39) table) (All-drop (λ w. w < p) (r * 39) table h)
 
 module _ {A : Type 0} (Q : A → Type 0) where
-  if-read : (d : Decoded) (brings : Instruction → List A) → ((i : Instruction) → All Q (brings i)) → All Q (if_read d brings)
-  if-read Unknown brings h = tt
-  if-read (Outside c i) brings h = tt
-  if-read (Read i) brings h = h i
+  if_read_lem : (d : Decoded) (brings : Instruction → List A) → ((i : Instruction) → All Q (brings i)) → All Q (if_read d brings)
+  if_read_lem Unknown brings h = tt
+  if_read_lem (Outside c i) brings h = tt
+  if_read_lem (Read i) brings h = h i
 
-  if-opcode : (opcode : ℕ) (i : Instruction) (brings : ℕ → List A) → ((n : ℕ) → All Q (brings n)) → All Q (if_opcode opcode i brings)
-  if-opcode opcode i brings h = All-cond Q (eqb (opcode_of i) opcode) (brings (argument_of i)) [] (h (argument_of i)) tt
+  if_opcode_lem : (opcode : ℕ) (i : Instruction) (brings : ℕ → List A) → ((n : ℕ) → All Q (brings n)) → All Q (if_opcode opcode i brings)
+  if_opcode_lem opcode i brings h = All-cond Q (eqb (opcode_of i) opcode) (brings (argument_of i)) [] (h (argument_of i)) tt
 
   window : (of : List ℕ → List ℕ → List A) → ((prev curr : List ℕ) → Words prev → Words curr → All Q (of prev curr))
       → (table : List ℕ) → Words table → (r : ℕ) → All Q (brought_by (of_windows of) table r)
@@ -68,15 +68,15 @@ module _ {A : Type 0} (Q : A → Type 0) where
 input_canonical : (prev curr : List ℕ) → Words prev → Words curr → All Canonical (input_entries prev curr)
 unfolding input_entries
 input_canonical prev curr h k =
-    if-read Canonical (instruction_of prev) _
-    (λ i. if-opcode Canonical 73 i (λ n. map lift (reverse (words_from curr ST0 n)))
+    if_read_lem Canonical (instruction_of prev) _
+    (λ i. if_opcode_lem Canonical 73 i (λ n. map lift (reverse (words_from curr ST0 n)))
     (λ n. lifted (reverse (words_from curr ST0 n)) (All-reverse (λ w. w < p) (words_from curr ST0 n) (cells_below curr ST0 n k))))
 
 output_canonical : (prev curr : List ℕ) → Words prev → Words curr → All Canonical (output_entries prev curr)
 unfolding output_entries
 output_canonical prev curr h k =
-    if-read Canonical (instruction_of prev) _
-    (λ i. if-opcode Canonical 19 i (λ n. map lift (words_from prev ST0 n)) (λ n. lifted (words_from prev ST0 n) (cells_below prev ST0 n h)))
+    if_read_lem Canonical (instruction_of prev) _
+    (λ i. if_opcode_lem Canonical 19 i (λ n. map lift (words_from prev ST0 n)) (λ n. lifted (words_from prev ST0 n) (cells_below prev ST0 n h)))
 
 -- an entry's element: itself, or the fraction's symbol
 abbrev pub CanonicalEntry : (k : Kind) → Entry k → Type 0
@@ -85,46 +85,46 @@ CanonicalEntry product e = Canonical e
 CanonicalEntry lookup f = Canonical f.symbol
 
 module _ (weights : List XFieldElement) where
-  instruction-canonical : (row : List ℕ) → All (CanonicalEntry lookup) (instruction_entries weights row)
+  instruction_canonical : (row : List ℕ) → All (CanonicalEntry lookup) (instruction_entries weights row)
   unfolding instruction_entries
-  instruction-canonical row = All-cond (CanonicalEntry lookup) (is_padding row) [] _ tt (weigh_canonical weights _, tt)
+  instruction_canonical row = All-cond (CanonicalEntry lookup) (is_padding row) [] _ tt (weigh_canonical weights _, tt)
 
-  opStack-canonical : (prev curr : List ℕ) → All Canonical (op_stack_entries weights prev curr)
+  op_stack_canonical : (prev curr : List ℕ) → All Canonical (op_stack_entries weights prev curr)
   unfolding op_stack_entries
-  opStack-canonical prev curr =
+  op_stack_canonical prev curr =
       All-cond Canonical (is_padding curr) [] _ tt
-      (if-read Canonical (instruction_of prev) _
+      (if_read_lem Canonical (instruction_of prev) _
       (λ i. All-image Canonical (op_stack_entry weights prev (shorter (influence_of i) prev curr)) (λ k. weigh_canonical weights _) (up_to (height_change (influence_of i)))))
 
-  ram-canonical : (prev curr : List ℕ) → All Canonical (ram_entries weights prev curr)
+  ram_canonical : (prev curr : List ℕ) → All Canonical (ram_entries weights prev curr)
   unfolding ram_entries
-  ram-canonical prev curr =
+  ram_canonical prev curr =
       All-cond Canonical (is_padding curr) [] _ tt
-      (if-read Canonical (instruction_of prev) _
+      (if_read_lem Canonical (instruction_of prev) _
       (λ i. All-image Canonical (ram_entry weights (word_at prev CLK) (cond (eqb (opcode_of i) 11) 0 1)) (λ access. weigh_canonical weights _) (ram_accesses i prev curr)))
 
-  hash_input-canonical : (row : List ℕ) → All Canonical (hash_input_entries weights row)
+  hash_input_canonical : (row : List ℕ) → All Canonical (hash_input_entries weights row)
   unfolding hash_input_entries
-  hash_input-canonical row =
+  hash_input_canonical row =
       All-cond Canonical (eqb (word_at row CI) 18) _ _ (weighed weights (words_from row ST0 10))
       (All-cond Canonical (is_merkle_step (word_at row CI)) _ [] (weighed weights (merkle_input row)) tt)
 
-  hashDigest-canonical : (prev curr : List ℕ) → All Canonical (hash_digest_entries weights prev curr)
+  hash_digest_canonical : (prev curr : List ℕ) → All Canonical (hash_digest_entries weights prev curr)
   unfolding hash_digest_entries
-  hashDigest-canonical prev curr =
+  hash_digest_canonical prev curr =
       All-cond Canonical (eqb (word_at prev CI) 18 || is_merkle_step (word_at prev CI)) _ [] (weighed weights (words_from curr ST0 5)) tt
 
-  sponge-canonical : (prev curr : List ℕ) → All Canonical (sponge_entries weights prev curr)
+  sponge_canonical : (prev curr : List ℕ) → All Canonical (sponge_entries weights prev curr)
   unfolding sponge_entries
-  sponge-canonical prev curr =
+  sponge_canonical prev curr =
       All-cond Canonical (eqb (word_at prev CI) 40) _ _ (weighed weights _)
       (All-cond Canonical (eqb (word_at prev CI) 34) _ _ (weighed weights _)
       (All-cond Canonical (eqb (word_at prev CI) 48) _ _ (weighed weights _)
       (All-cond Canonical (eqb (word_at prev CI) 56) _ [] (weighed weights _) tt)))
 
-  u32-canonical : (prev curr : List ℕ) → All (CanonicalEntry lookup) (u32_entries weights prev curr)
+  u32_canonical : (prev curr : List ℕ) → All (CanonicalEntry lookup) (u32_entries weights prev curr)
   unfolding u32_entries
-  u32-canonical prev curr = All-image (CanonicalEntry lookup) (λ words. one_over (weigh weights words)) (λ words. weigh_canonical weights words) (u32_lookups prev curr)
+  u32_canonical prev curr = All-image (CanonicalEntry lookup) (λ words. one_over (weigh weights words)) (λ words. weigh_canonical weights words) (u32_lookups prev curr)
 
 clock_canonical : (row : List ℕ) → Words row → All (CanonicalEntry lookup) (clock_entries row)
 unfolding clock_entries
@@ -135,14 +135,14 @@ row_canonical : (c : Column) (weights : List XFieldElement) (table : List ℕ) �
 unfolding row_entries jump_stack_entries
 row_canonical input weights table h r = window Canonical input_entries input_canonical table h r
 row_canonical output weights table h r = window Canonical output_entries output_canonical table h r
-row_canonical instruction weights table h r = instruction-canonical weights (row_at table r)
-row_canonical op_stack weights table h r = window Canonical (op_stack_entries weights) (λ prev curr k l. opStack-canonical weights prev curr) table h r
-row_canonical ram weights table h r = window Canonical (ram_entries weights) (λ prev curr k l. ram-canonical weights prev curr) table h r
+row_canonical instruction weights table h r = instruction_canonical weights (row_at table r)
+row_canonical op_stack weights table h r = window Canonical (op_stack_entries weights) (λ prev curr k l. op_stack_canonical weights prev curr) table h r
+row_canonical ram weights table h r = window Canonical (ram_entries weights) (λ prev curr k l. ram_canonical weights prev curr) table h r
 row_canonical jump_stack weights table h r = weighed weights _
-row_canonical hash_input weights table h r = hash_input-canonical weights (row_at table r)
-row_canonical hash_digest weights table h r = window Canonical (hash_digest_entries weights) (λ prev curr k l. hashDigest-canonical weights prev curr) table h r
-row_canonical sponge weights table h r = window Canonical (sponge_entries weights) (λ prev curr k l. sponge-canonical weights prev curr) table h r
-row_canonical u32 weights table h r = window (CanonicalEntry lookup) (u32_entries weights) (λ prev curr k l. u32-canonical weights prev curr) table h r
+row_canonical hash_input weights table h r = hash_input_canonical weights (row_at table r)
+row_canonical hash_digest weights table h r = window Canonical (hash_digest_entries weights) (λ prev curr k l. hash_digest_canonical weights prev curr) table h r
+row_canonical sponge weights table h r = window Canonical (sponge_entries weights) (λ prev curr k l. sponge_canonical weights prev curr) table h r
+row_canonical u32 weights table h r = window (CanonicalEntry lookup) (u32_entries weights) (λ prev curr k l. u32_canonical weights prev curr) table h r
 row_canonical clock weights table h r = clock_canonical (row_at table r) (row_below table h r)
 
 pub entries_canonical : (c : Column) (weights : List XFieldElement) (table : List ℕ) → Words table → (n : ℕ) → All (CanonicalEntry (kind_of c)) (entries c weights table n)

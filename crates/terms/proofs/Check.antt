@@ -36,20 +36,20 @@ use Rattle.check_relations.specs.Offered.{cell_before}
 use Rattle.check_relations.specs.First.{verdict}
 use Rattle.check_relations.specs.declared.Verdict.{Verdict}
 use Rattle.check_relations.specs.declared.Verdict.TheVariants.{Yes}
-use Rattle.check_relations.proofs.Cells.{start-running, holds-exactly, all-cells}
-use Rattle.check_relations.proofs.Place.{column_at, all_hold, first-place}
+use Rattle.check_relations.proofs.Cells.{start_running, holds_exactly, all_cells}
+use Rattle.check_relations.proofs.Place.{column_at, all_hold, first_place}
 use Rattle.check_columns.specs.Check.{check_answer}
 use Rattle.check_columns.specs.declared.CheckAnswer.{CheckAnswer}
 use Rattle.check_columns.specs.declared.CheckAnswer.TheVariants.{Checked, Refused}
-use Rattle.check_columns.proofs.Stages.{Passed, passed, verdict-is}
+use Rattle.check_columns.proofs.Stages.{Passed, passed, verdict_is}
 use Rattle.terms.specs.Check.{Lent, Check}
 use Rattle.terms.proofs.Cells.{cell_at_lem}
 
 -- what extension writes: its length, its words, and that its cells are all of it
 module _ (main challenges : List ℕ) where
-  extended-long : length (extended main challenges) ≡ rows main * 33
+  extended_long : length (extended main challenges) ≡ rows main * 33
   unfolding extended
-  extended-long = length-rows 33 (cells_of_row challenges main) 0 (rows main) (λ r l h. length-row (λ c. cell c challenges main r))
+  extended_long = length-rows 33 (cells_of_row challenges main) 0 (rows main) (λ r l h. length-row (λ c. cell c challenges main r))
 
   words_below : (value : Column → XFieldElement) → ((c : Column) → Canonical (value c)) → (cs : List Column) → all_below (gathered value cs) ≡ true
   unfolding all_below
@@ -60,14 +60,14 @@ module _ (main challenges : List ℕ) where
   unfolding aux_row placed
   row_below value h = words_below value h columns
 
-  rows-below : (row : ℕ → List ℕ) → ((r : ℕ) → all_below (row r) ≡ true) → (c n : ℕ) → all_below (rows_from row c n) ≡ true
+  rows_below : (row : ℕ → List ℕ) → ((r : ℕ) → all_below (row r) ≡ true) → (c n : ℕ) → all_below (rows_from row c n) ≡ true
   unfolding rows_from all_below
-  rows-below row h c zero = refl
-  rows-below row h c (suc n) = below_append (row c) (rows_from row (suc c) n) (h c) (rows-below row h (suc c) n)
+  rows_below row h c zero = refl
+  rows_below row h c (suc n) = below_append (row c) (rows_from row (suc c) n) (h c) (rows_below row h (suc c) n)
 
-  extended-below : all_below (extended main challenges) ≡ true
+  extended_below : all_below (extended main challenges) ≡ true
   unfolding extended
-  extended-below = rows-below (cells_of_row challenges main) (λ r. row_below (λ c. cell c challenges main r) (λ c. running_canonical c challenges main (suc r))) 0 (rows main)
+  extended_below = rows_below (cells_of_row challenges main) (λ r. row_below (λ c. cell c challenges main r) (λ c. running_canonical c challenges main (suc r))) 0 (rows main)
 
   -- a list of as many words that has extension's cells is what extension writes
   module _ (offered : List ℕ) (long : length offered ≡ rows main * 33) (cells : (r : ℕ) (c : Column) → r < rows main → cell_at c offered r ≡ cell c challenges main r) where
@@ -84,7 +84,7 @@ module _ (main challenges : List ℕ) where
         rw (← c.1) (word (r * 33 + place_of c.0 * 3) m n (cells r c.0 l ∙ sym (cell_at_lem main challenges c.0 r l)))
 
     all_words : offered ≡ extended main challenges
-    all_words = ext_get_or 0 offered (extended main challenges) (long ∙ sym extended-long) (λ i l.
+    all_words = ext_get_or 0 offered (extended main challenges) (long ∙ sym extended_long) (λ i l.
         let e : i ≡ i / 33 * 33 + i % 33 / 3 * 3 + i % 33 % 3 = omega arith in
         rw e (at (i / 33) (i % 33 / 3) (i % 33 % 3) (omega (arith, long, l)) (omega arith) (omega arith)))
 
@@ -121,39 +121,39 @@ module _ (main challenges offered : List ℕ) (chunk : ℕ) (aux work : List ℕ
       answer.Done))
 
   -- yes is just extension's columns
-  says-yes : check_answer main challenges offered ≡ Checked Yes → (extend_answer main challenges chunk aux work ≡ answer.Done) × (extend_aux main challenges chunk aux work ≡ offered)
-  says-yes h =
+  says_yes : check_answer main challenges offered ≡ Checked Yes → (extend_answer main challenges chunk aux work ≡ answer.Done) × (extend_aux main challenges chunk aux work ≡ offered)
+  says_yes h =
       let p = passed main challenges offered h in
       let done = done_both (extend_answer main challenges chunk aux work) (verdict challenges main offered) Yes (sym (same_answer p.offered_length p.offered_below) ∙ h) in
-      let held = (all_hold challenges main offered).0 (verdict-is main challenges offered h) in
-      (done, written main challenges chunk aux work done ∙ sym (all_words main challenges offered p.offered_length (all-cells challenges main offered p.no_zero p.offered_below held)))
+      let held = (all_hold challenges main offered).0 (verdict_is main challenges offered h) in
+      (done, written main challenges chunk aux work done ∙ sym (all_words main challenges offered p.offered_length (all_cells challenges main offered p.no_zero p.offered_below held)))
 
-  yes-to : (extend_answer main challenges chunk aux work ≡ answer.Done) × (extend_aux main challenges chunk aux work ≡ offered) → check_answer main challenges offered ≡ Checked Yes
-  yes-to h =
+  yes_to : (extend_answer main challenges chunk aux work ≡ answer.Done) × (extend_aux main challenges chunk aux work ≡ offered) → check_answer main challenges offered ≡ Checked Yes
+  yes_to h =
       let e = sym h.1 ∙ written main challenges chunk aux work h.0 in
-      let below = ap all_below e ∙ extended-below main challenges in
+      let below = ap all_below e ∙ extended_below main challenges in
       let no_zero = (extension.passed main challenges chunk aux work h.0).no_zero in
       let own : (r : ℕ) (c : Column) → r < rows main → cell_at c offered r ≡ cell c challenges main r = λ r c l. ap (λ t. cell_at c t r) e ∙ cell_at_lem main challenges c r l in
-      same_answer (ap length e ∙ extended-long main challenges) below
+      same_answer (ap length e ∙ extended_long main challenges) below
       ∙ ap (λ a. as_checked a (verdict challenges main offered)) h.0
-      ∙ ap Checked ((all_hold challenges main offered).1 (λ r c l. (holds-exactly challenges main offered no_zero r l below c (before own c r l)).1 (own r c l)))
+      ∙ ap Checked ((all_hold challenges main offered).1 (λ r c l. (holds_exactly challenges main offered no_zero r l below c (before own c r l)).1 (own r c l)))
     where
       before : ((r : ℕ) (c : Column) → r < rows main → cell_at c offered r ≡ cell c challenges main r) → (c : Column) (r : ℕ) → r < rows main → cell_before c offered r ≡ running c challenges main r
-      before own c zero l = start-running challenges main offered c
+      before own c zero l = start_running challenges main offered c
       before own c (suc r) l = own r c (omega arith)
 
 pub check : Check
 check =
     record {
-      yes = λ main challenges offered chunk aux work lent. (says-yes main challenges offered chunk aux work lent, yes-to main challenges offered chunk aux work lent);
+      yes = λ main challenges offered chunk aux work lent. (says_yes main challenges offered chunk aux work lent, yes_to main challenges offered chunk aux work lent);
       refusals = λ main challenges offered chunk aux work lent long below r.
           let e = same_answer main challenges offered chunk aux work lent long below in
           (λ h. refused_both (extend_answer main challenges chunk aux work) (verdict challenges main offered) r (sym e ∙ h), λ h. e ∙ ap (λ a. as_checked a (verdict challenges main offered)) h);
       relations = λ main challenges offered v h c r l e.
           let p = passed main challenges offered h in
-          holds-exactly challenges main offered p.no_zero r l p.offered_below c e;
+          holds_exactly challenges main offered p.no_zero r l p.offered_below c e;
       no = λ main challenges offered v h r k.
-          let e = verdict-is main challenges offered h in
-          let first = first-place challenges main offered r k in
+          let e = verdict_is main challenges offered h in
+          let first = first_place challenges main offered r k in
           (λ n. first.0 (e ∙ n), λ f. sym e ∙ first.1 f);
     }

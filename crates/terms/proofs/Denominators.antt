@@ -48,15 +48,15 @@ module _ (main challenges : List ℕ) where
   none_zero h =
       none_of (has_zero (indeterminate instruction) (all instruction)) (has_zero (indeterminate u32) (all u32)) (has_zero (indeterminate clock) (all clock)) h
 
-  pub all-defined : (c : Column) → zero_denominator main challenges ≡ false → DefinedAt (kind_of c) (indeterminate c) (all c)
-  all-defined input h = tt
-  all-defined output h = tt
-  all-defined instruction h = defined (indeterminate instruction) (all instruction) (none_zero h).0
-  all-defined op_stack h = tt
-  all-defined ram h = tt
-  all-defined jump_stack h = tt
-  all-defined hash_input h = tt
-  all-defined hash_digest h = tt
-  all-defined sponge h = tt
-  all-defined u32 h = defined (indeterminate u32) (all u32) (none_zero h).1
-  all-defined clock h = defined (indeterminate clock) (all clock) (none_zero h).2
+  pub all_defined : (c : Column) → zero_denominator main challenges ≡ false → DefinedAt (kind_of c) (indeterminate c) (all c)
+  all_defined input h = tt
+  all_defined output h = tt
+  all_defined instruction h = defined (indeterminate instruction) (all instruction) (none_zero h).0
+  all_defined op_stack h = tt
+  all_defined ram h = tt
+  all_defined jump_stack h = tt
+  all_defined hash_input h = tt
+  all_defined hash_digest h = tt
+  all_defined sponge h = tt
+  all_defined u32 h = defined (indeterminate u32) (all u32) (none_zero h).1
+  all_defined clock h = defined (indeterminate clock) (all clock) (none_zero h).2

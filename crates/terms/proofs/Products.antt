@@ -7,11 +7,11 @@ use native.Mathlib.Omega.{arith}
 use lib.ListN.{length}
 use Rattle.algebra.specs.Ring.{CommRing, Field}
 use Rattle.algebra.specs.Polynomial.{All, Distinct}
-use Rattle.algebra.proofs.RingLaws.{eq-of-sub}
+use Rattle.algebra.proofs.RingLaws.{eq_of_sub}
 use Rattle.algebra.proofs.Solver.{◌⊕◌, ◌⊗◌, ⊖◌, solve, v0, v1, v2}
 use Rattle.algebra.proofs.Roots.{eval, Zero, root_bound}
 use Rattle.terms.proofs.Tests.{choose}
-use Rattle.terms.proofs.Polynomials.{sub, difference, addMultiple-length, eval-difference, times, times-length, times_zero, eval-times, product, productOf, productOf-length, eval-productOf, product-self, product-nonzero, nonzero-at}
+use Rattle.terms.proofs.Polynomials.{sub, difference, add_multiple_length, eval_difference, times, times_length, times_zero, eval_times, product, product_of, product_of_length, eval_product_of, product-self, product-nonzero, nonzero_at}
 
 module _ (R : CommRing) where
   open R use {Carrier as C, zero as o, one as i, mul, neg, add-neg}
@@ -63,24 +63,24 @@ module _ (R : CommRing) where
       value : (x : C) → eval R polynomial x ≡ sub R (product R x es) (product R x fs)
 
     -- the products differ at x
-    apart-at : (es fs : List C) (x : C) → product R x es ≢ product R x fs → Apart es fs
-    apart-at es fs x ne =
+    apart_at : (es fs : List C) (x : C) → product R x es ≢ product R x fs → Apart es fs
+    apart_at es fs x ne =
         record {
-          polynomial = difference R (productOf R es) (productOf R fs);
-          nonzero = nonzero-at R (difference R (productOf R es) (productOf R fs)) x
-              (λ z. ne (eq-of-sub R (product R x es) (product R x fs) (sym (value x) ∙ z)));
-          short = omega (arith, addMultiple-length R (neg i) (productOf R es) (productOf R fs), productOf-length R es, productOf-length R fs);
+          polynomial = difference R (product_of R es) (product_of R fs);
+          nonzero = nonzero_at R (difference R (product_of R es) (product_of R fs)) x
+              (λ z. ne (eq_of_sub R (product R x es) (product R x fs) (sym (value x) ∙ z)));
+          short = omega (arith, add_multiple_length R (neg i) (product_of R es) (product_of R fs), product_of_length R es, product_of_length R fs);
           value = value;
         }
       where
-        value : (x : C) → eval R (difference R (productOf R es) (productOf R fs)) x ≡ sub R (product R x es) (product R x fs)
-        value x = eval-difference R (productOf R es) (productOf R fs) x ∙ ap₂ (sub R) (eval-productOf R x es) (eval-productOf R x fs)
+        value : (x : C) → eval R (difference R (product_of R es) (product_of R fs)) x ≡ sub R (product R x es) (product R x fs)
+        value x = eval_difference R (product_of R es) (product_of R fs) x ∙ ap₂ (sub R) (eval_product_of R x es) (eval_product_of R x fs)
 
     -- by induction: a common element is taken out of both, and an element of one alone makes that product alone zero
     apart : (es fs : List C) → ¬ SameBag es fs → Apart es fs
     unfolding count product
     apart [] [] ne = absurd (ne (λ e. refl))
-    apart [] (f ∷ fs) ne = apart-at [] (f ∷ fs) f (λ z. product-nonzero R K f [] tt (z ∙ product-self R f fs))
+    apart [] (f ∷ fs) ne = apart_at [] (f ∷ fs) f (λ z. product-nonzero R K f [] tt (z ∙ product-self R f fs))
     apart (e ∷ es) fs ne = go (apart es) (take e fs)
       where
         distribute : (x a b : C) → mul (sub R x e) (sub R a b) ≡ sub R (mul (sub R x e) a) (mul (sub R x e) b)
@@ -92,11 +92,11 @@ module _ (R : CommRing) where
             record {
               polynomial = times R e o r.polynomial;
               nonzero = λ z. r.nonzero (times_zero R e r.polynomial z);
-              short = omega (arith, times-length R e o r.polynomial, t.fewer, r.short);
-              value = λ x. eval-times R e x r.polynomial ∙ ap (mul (sub R x e)) (r.value x)
+              short = omega (arith, times_length R e o r.polynomial, t.fewer, r.short);
+              value = λ x. eval_times R e x r.polynomial ∙ ap (mul (sub R x e)) (r.value x)
                   ∙ distribute x (product R x es) (product R x t.rest) ∙ ap (sub R (product R x (e ∷ es))) (sym (t.products x));
             }
-        go recur (inr d) = apart-at (e ∷ es) fs e (λ z. product-nonzero R K e fs d (sym z ∙ product-self R e es))
+        go recur (inr d) = apart_at (e ∷ es) fs e (λ z. product-nonzero R K e fs d (sym z ∙ product-self R e es))
 
     roots : (es fs : List C) (a : Apart es fs) (xs : List C) → All (λ x. product R x es ≡ product R x fs) xs
         → All (λ x. eval R a.polynomial x ≡ o) xs

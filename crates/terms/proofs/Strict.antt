@@ -11,7 +11,7 @@ use borrow.Author.Tests.{eqb-true, eqb-false}
 use Rattle.refusal.specs.Number.{on_done}
 use Rattle.refusal.specs.Tests.{Tests}
 use Rattle.refusal.specs.declared.Refusal.TheVariants.{UndecodableRow}
-use Rattle.refusal.proofs.First.{inserted-exactly, inserted-elsewhere}
+use Rattle.refusal.proofs.First.{inserted_exactly, inserted_elsewhere}
 use Rattle.isa.specs.declared.Instruction.{Instruction}
 use Rattle.isa_decoding.specs.declared.Decoded.{Decoded}
 use Rattle.isa_decoding.specs.declared.Decoded.TheVariants.{Read, Unknown, Outside}
@@ -33,28 +33,28 @@ not_read Unknown h = refl
 not_read (Outside c i) h = refl
 
 module _ (main : List ℕ) where
-  here-or-later : (c n : ℕ) (read : Bool) → is_read (instruction_of (row_at main c)) ≡ read → (not read || undecodable_from main (suc c) n) ≡ true
+  here_or_later : (c n : ℕ) (read : Bool) → is_read (instruction_of (row_at main c)) ≡ read → (not read || undecodable_from main (suc c) n) ≡ true
       → (undecodable_from main (suc c) n ≡ true → (k : ℕ) × (k < suc c + n) × Undecodable main k)
       → (k : ℕ) × (k < c + suc n) × Undecodable main k
-  here-or-later c n true r e later = let row = later e in (row.0, omega (arith, row.1), row.2)
-  here-or-later c n false r e later = (c, omega arith, unread_row (instruction_of (row_at main c)) r)
+  here_or_later c n true r e later = let row = later e in (row.0, omega (arith, row.1), row.2)
+  here_or_later c n false r e later = (c, omega arith, unread_row (instruction_of (row_at main c)) r)
 
   some_row : (c n : ℕ) → undecodable_from main c n ≡ true → (k : ℕ) × (k < c + n) × Undecodable main k
   unfolding undecodable_from
   some_row c zero e = absurd (false≢true e)
-  some_row c (suc n) e = here-or-later c n (is_read (instruction_of (row_at main c))) refl e (some_row (suc c) n)
+  some_row c (suc n) e = here_or_later c n (is_read (instruction_of (row_at main c))) refl e (some_row (suc c) n)
 
-  first-or-later : (c n k : ℕ) → c ≤ k → Undecodable main k → (same : Bool) → eqb c k ≡ same → (suc c ≤ k → undecodable_from main (suc c) n ≡ true)
+  first_or_later : (c n k : ℕ) → c ≤ k → Undecodable main k → (same : Bool) → eqb c k ≡ same → (suc c ≤ k → undecodable_from main (suc c) n ≡ true)
       → (not (is_read (instruction_of (row_at main c))) || undecodable_from main (suc c) n) ≡ true
-  first-or-later c n k h u true e later = rw (not_read (instruction_of (row_at main c)) (rw (← eqb-true c k e) at u))
-  first-or-later c n k h u false e later =
+  first_or_later c n k h u true e later = rw (not_read (instruction_of (row_at main c)) (rw (← eqb-true c k e) at u))
+  first_or_later c n k h u false e later =
       let other = eqb-false c k e in
       rw (later (omega (arith, other)), or-true)
 
   from_row : (c n k : ℕ) → c ≤ k → k < c + n → Undecodable main k → undecodable_from main c n ≡ true
   unfolding undecodable_from
   from_row c zero k h l u = absurd (omega arith)
-  from_row c (suc n) k h l u = first-or-later c n k h u (eqb c k) refl (λ m. from_row (suc c) n k m (omega arith) u)
+  from_row c (suc n) k h l u = first_or_later c n k h u (eqb c k) refl (λ m. from_row (suc c) n k m (omega arith) u)
 
 module _ (main challenges : List ℕ) (chunk : ℕ) (aux work : List ℕ) where
   abbrev before : Tests
@@ -66,7 +66,7 @@ module _ (main challenges : List ℕ) (chunk : ℕ) (aux work : List ℕ) where
   eleven : Eleven main challenges chunk aux work
   unfolding strict_answer
   eleven =
-      let law = inserted-exactly UndecodableRow (undecodable main) after before tt tt in (
+      let law = inserted_exactly UndecodableRow (undecodable main) after before tt tt in (
         λ e. let h = law.0 e in let row = some_row main 0 (rows main) h.1 in (h.0, row.0, omega (arith, row.1), row.2),
         λ h. law.1 (h.0, from_row main 0 (rows main) h.1 (omega arith) (omega (arith, h.2)) h.3),
       )
@@ -74,7 +74,7 @@ module _ (main challenges : List ℕ) (chunk : ℕ) (aux work : List ℕ) where
   elsewhere : Elsewhere main challenges chunk aux work
   unfolding strict_answer strict_aux strict_work extend_answer extend_aux extend_work
   elsewhere ne =
-      let e = inserted-elsewhere UndecodableRow (undecodable main) after before ne in
+      let e = inserted_elsewhere UndecodableRow (undecodable main) after before ne in
       (e, ap (λ a. on_done a (extended main challenges) aux) e, ap (λ a. on_done a (replicate (length work) 0) work) e)
 
 pub strict : Strict

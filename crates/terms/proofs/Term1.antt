@@ -8,7 +8,7 @@ use lib.Dec.{T, eqb, leb, ltb}
 use lib.ListN.{length, take, drop, replicate}
 use Rattle.refusal.specs.Number.{number_of, answer_number_of, on_done}
 use Rattle.refusal.specs.Tests.{Tests, ◌when◌, first_or, first}
-use Rattle.refusal.proofs.First.{stands, all_stand, found, listed, number-listed}
+use Rattle.refusal.proofs.First.{stands, all_stand, found, listed, number_listed}
 use Rattle.refusal.specs.declared.Refusal.{Refusal}
 use Rattle.refusal.specs.declared.Refusal.TheVariants.{SliceLength, WordNotBelowP, RowCount, UnknownCommand, BatchCutOff, CommandOutOfPlace, CommandOutOfOrder, HeightOutOfRange}
 use Rattle.refusal.specs.declared.Answer.{Answer}
@@ -50,8 +50,8 @@ use Rattle.batch.specs.Open.{open_number, open_answer, open_slice}
 use Rattle.batch.specs.Lent.{zeros}
 use Rattle.batch_reader.specs.declared.Counts.{Counts}
 use Rattle.table_pad.specs.Height.{padded_height}
-use Rattle.terminals_extended.specs.Extended.{extendedAnswer}
-use Rattle.terminals_cells.specs.Terminals.{after, paddedAnswer, filledAnswer, tableAnswer, openedAnswer, answer_after, terminals_answer, terminals_cells}
+use Rattle.terminals_extended.specs.Extended.{extended_answer}
+use Rattle.terminals_cells.specs.Terminals.{after, padded_answer, filled_answer, table_answer, opened_answer, answer_after, terminals_answer, terminals_cells}
 use Rattle.terminals_batch.specs.Into.{terminals_into, cells_into}
 use Rattle.tealbobbin_answers.specs.Write.{told_form}
 use Rattle.batch_writer.specs.Layout.{batch_of}
@@ -79,7 +79,7 @@ chosen number false a b f g = g
 -- an answer by tests whose refusals are of the line
 by_tests : {A : Type 0} {line : List ℕ} (refuse : Refusal → A) (number : A → ℕ) → ((r : Refusal) → number (refuse r) ≡ number_of r)
     → (tests : Tests) → T (all_stand (0 ∷ line) tests) → (last : A) → number last ∈ 0 ∷ line → number (first_or refuse tests last) ∈ 0 ∷ line
-by_tests {line} refuse number numbered tests t last f = number-listed refuse number numbered tests last (listed (0 ∷ line) tests t) f
+by_tests {line} refuse number numbered tests t last f = number_listed refuse number numbered tests last (listed (0 ∷ line) tests t) f
 
 -- past a success nothing is asked of the slices
 done : {line : List ℕ} {unchanged : Type 0} → Answers line 0 unchanged
@@ -167,20 +167,20 @@ module _ (line : List ℕ) (t : (seen : Seen) (code : ℕ) (bytes : List ℕ) �
   unfolding fault judged
   command seen code bytes = by_refusals (fault_tests seen code bytes) (t seen code bytes)
 
-  unless-refused : (answer : Answer) (next : Reading) → answer_number_of answer ∈ 0 ∷ line → read_number next ∈ 0 ∷ line → read_number (unless answer next) ∈ 0 ∷ line
-  unless-refused Done next f g = g
-  unless-refused (Refused r) next f g = f
+  unless_refused : (answer : Answer) (next : Reading) → answer_number_of answer ∈ 0 ∷ line → read_number next ∈ 0 ∷ line → read_number (unless answer next) ∈ 0 ∷ line
+  unless_refused Done next f g = g
+  unless_refused (Refused r) next f g = f
 
-  batch-read : (n : ℕ) (before : List Command) (bytes : List ℕ) → read_number (read_from n before bytes) ∈ 0 ∷ line
+  batch_read : (n : ℕ) (before : List Command) (bytes : List ℕ) → read_number (read_from n before bytes) ∈ 0 ∷ line
   unfolding read_from
-  batch-read zero before bytes = cut_off
-  batch-read (suc n) before [] = cut_off
-  batch-read (suc n) before (code ∷ bytes) =
+  batch_read zero before bytes = cut_off
+  batch_read (suc n) before [] = cut_off
+  batch_read (suc n) before (code ∷ bytes) =
       let next = before ++ (record { code = code; operand = take (width code) bytes } ∷ []) in
       let rest = read_from n next (drop (width code) bytes) in
-      unless-refused (fault (seen_in before) code bytes) (cond (eqb code END) (read before) rest)
+      unless_refused (fault (seen_in before) code bytes) (cond (eqb code END) (read before) rest)
       (command (seen_in before) code bytes)
-      (chosen read_number (eqb code END) (read before) rest zero_listed (batch-read n next (drop (width code) bytes)))
+      (chosen read_number (eqb code END) (read before) rest zero_listed (batch_read n next (drop (width code) bytes)))
 
 -- one operation after the other: open, challenges, fill, pad and extend, whose chunk length 4 is not 0
 abbrev terminals_line : List ℕ
@@ -194,26 +194,26 @@ in_turn Done b f g = g
 in_turn (Refused refusal) b f g = f
 
 module _ (record-words : List ℕ) where
-  extended-ends : (main : List ℕ) → Ends (extendedAnswer main record-words)
-  unfolding extendedAnswer extend_answer
-  extended-ends main =
+  extended_ends : (main : List ℕ) → Ends (extended_answer main record-words)
+  unfolding extended_answer extend_answer
+  extended_ends main =
       let aux = zeros (rows main * 33) in
       by_refusals (lengths_test main record-words aux ∷ rows_test main ∷ drop 3 (extend_tests main record-words 4 aux (zeros (started_chunks (rows main) 4 * 6)))) tt
 
-  padded-ends : (table : List ℕ) (len : ℕ) → Ends (paddedAnswer table len record-words)
-  unfolding paddedAnswer pad_answer
-  padded-ends table len = in_turn (pad_answer table len) (extendedAnswer (pad_table table len) record-words) (by_refusals (pad_tests table len) tt) (extended-ends (pad_table table len))
+  padded_ends : (table : List ℕ) (len : ℕ) → Ends (padded_answer table len record-words)
+  unfolding padded_answer pad_answer
+  padded_ends table len = in_turn (pad_answer table len) (extended_answer (pad_table table len) record-words) (by_refusals (pad_tests table len) tt) (extended_ends (pad_table table len))
 
-  table-ends : (k : ℕ) (trace op_stack ram jump_stack : List ℕ) → Ends (tableAnswer k trace op_stack ram jump_stack record-words)
-  unfolding tableAnswer filledAnswer fill_answer
-  table-ends k trace op_stack ram jump_stack =
+  table_ends : (k : ℕ) (trace op_stack ram jump_stack : List ℕ) → Ends (table_answer k trace op_stack ram jump_stack record-words)
+  unfolding table_answer filled_answer fill_answer
+  table_ends k trace op_stack ram jump_stack =
       let table = zeros (padded_height k (rows trace) * 39) in
       let filled-table = fill_table trace op_stack ram jump_stack table in
-      in_turn (fill_answer trace op_stack ram jump_stack table) (paddedAnswer filled-table (rows trace) record-words)
-      (by_refusals (fill_tests trace op_stack ram jump_stack table) tt) (padded-ends filled-table (rows trace))
+      in_turn (fill_answer trace op_stack ram jump_stack table) (padded_answer filled-table (rows trace) record-words)
+      (by_refusals (fill_tests trace op_stack ram jump_stack table) tt) (padded_ends filled-table (rows trace))
 
-opened_ends : (counts : Counts) (trace op_stack ram jump_stack sampled digest input output : List ℕ) → Ends (openedAnswer counts trace op_stack ram jump_stack sampled digest input output)
-unfolding openedAnswer challenges_answer
+opened_ends : (counts : Counts) (trace op_stack ram jump_stack sampled digest input output : List ℕ) → Ends (opened_answer counts trace op_stack ram jump_stack sampled digest input output)
+unfolding opened_answer challenges_answer
 opened_ends counts trace op_stack ram jump_stack sampled digest input output =
     let read-words = take counts.input input in
     let wrote = take counts.output output in
@@ -223,8 +223,8 @@ opened_ends counts trace op_stack ram jump_stack sampled digest input output =
     let o = take counts.op_stack op_stack in
     let r = take counts.ram ram in
     let j = take counts.jump_stack jump_stack in
-    in_turn (challenges_answer sampled digest read-words wrote lent) (tableAnswer counts.log2_height rows-sent o r j derived)
-    (by_refusals (challenges_tests sampled digest read-words wrote lent) tt) (table-ends derived counts.log2_height rows-sent o r j)
+    in_turn (challenges_answer sampled digest read-words wrote lent) (table_answer counts.log2_height rows-sent o r j derived)
+    (by_refusals (challenges_tests sampled digest read-words wrote lent) tt) (table_ends derived counts.log2_height rows-sent o r j)
 
 after_open : (a : OpenAnswer) (bytes : List ℕ) → open_number a ∈ 0 ∷ terminals_line → Ends (answer_after a bytes)
 after_open (open-answer.Refused refusal) bytes f = f
@@ -235,7 +235,7 @@ unfolding terminals_answer open_answer reading
 terminals_end bytes =
     after_open (open_answer bytes 1248 128 128 128 177 5 64 64) bytes
     (by_tests open-answer.Refused open_number (λ r. refl) ((SliceLength when ltb batch.MAX-BYTES (length bytes) || false) ∷ []) tt
-    (answer_of (reading bytes)) (batch-read _ (λ seen code rest. tt) (standing BatchCutOff tt) (length bytes) [] bytes))
+    (answer_of (reading bytes)) (batch_read _ (λ seen code rest. tt) (standing BatchCutOff tt) (length bytes) [] bytes))
 
 module _ (bytes : List ℕ) (lent : Slices) where
   open_kept : {line : List ℕ} (answer : OpenAnswer) → open_number answer ∈ 0 ∷ line
@@ -299,7 +299,7 @@ term1 =
           (cond (eqb (length lent.counts) 7) answer (open-answer.Refused SliceLength))
           (chosen open_number (eqb (length lent.counts) 7) answer (open-answer.Refused SliceLength)
           (by_tests open-answer.Refused open_number (λ r. refl) ((SliceLength when ltb batch.MAX-BYTES (length bytes) || not lengths) ∷ []) tt
-          (answer_of (reading bytes)) (batch-read _ (λ seen code rest. tt) (standing BatchCutOff tt) (length bytes) [] bytes))
+          (answer_of (reading bytes)) (batch_read _ (λ seen code rest. tt) (standing BatchCutOff tt) (length bytes) [] bytes))
           (standing SliceLength tt));
       write_batch = λ contents form bytes.
           on_done_lem (write_answer (told_form form) contents (length bytes))

@@ -25,7 +25,7 @@ use Rattle.extend_answer.proofs.Accepted.{Accepted, passed}
 use Rattle.terms.proofs.Term2.{term2}
 use Rattle.field.proofs.Units.{element_canonical}
 use Rattle.terms.proofs.Canonical.{Words, words_below, CanonicalEntry, entries_canonical}
-use Rattle.terms.proofs.Denominators.{DefinedAt, all-defined}
+use Rattle.terms.proofs.Denominators.{DefinedAt, all_defined}
 
 put_own : (i : ℕ) (x : XFieldElement) (sampled : ℕ → XFieldElement) → put i x sampled i ≡ x
 put_own i x sampled = rw (eq-eqb i i refl)
@@ -48,8 +48,8 @@ module _ (c : Column) (sampled : ℕ → XFieldElement) (x : XFieldElement) (mai
   own = ends.given (indeterminate_of c) (all_sampled c).own_sampled ∙ put_own (indeterminate_of c) x sampled
 
   -- so that the entries are the same for every x
-  same-weights : weights c ends.challenges ≡ map sampled (weights_of c)
-  same-weights =
+  same_weights : weights c ends.challenges ≡ map sampled (weights_of c)
+  same_weights =
       map_same (challenge_at ends.challenges) sampled (weights_of c)
       (All-imply (λ j. (j < SAMPLE-COUNT) × (j ≢ indeterminate_of c)) (λ j. challenge_at ends.challenges j ≡ sampled j)
       (λ j h. ends.given j h.0 ∙ put_other (indeterminate_of c) x sampled j h.1) (weights_of c)
@@ -59,11 +59,11 @@ module _ (c : Column) (sampled : ℕ → XFieldElement) (x : XFieldElement) (mai
   tests = passed main ends.challenges ends.chunk ends.aux ends.work ends.accepted
 
   -- the column's argument over all entries
-  last-cell : argument (kind_of c) (challenge_at ends.challenges (indeterminate_of c)) (entries c (weights c ends.challenges) main (suc (rows main - 1)))
+  last_cell_lem : argument (kind_of c) (challenge_at ends.challenges (indeterminate_of c)) (entries c (weights c ends.challenges) main (suc (rows main - 1)))
       ≡ argument (kind_of c) x (entries_of c sampled main)
-  last-cell =
+  last_cell_lem =
       ap (λ y. argument (kind_of c) y (entries c (weights c ends.challenges) main (suc (rows main - 1)))) own
-      ∙ ap (λ ws. argument (kind_of c) x (entries c ws main (suc (rows main - 1)))) same-weights
+      ∙ ap (λ ws. argument (kind_of c) x (entries c ws main (suc (rows main - 1)))) same_weights
       ∙ ap (λ n. argument (kind_of c) x (entries c (map sampled (weights_of c)) main n)) (from_last (rows main) tests.some_row)
 
   gives : Gives c sampled x main v
@@ -71,10 +71,10 @@ module _ (c : Column) (sampled : ℕ → XFieldElement) (x : XFieldElement) (mai
       record {
         main_words = words_below main tests.main_below;
         canonical = subst Canonical own (element_canonical ends.challenges tests.challenges_below (indeterminate_of c * 3));
-        defined = subst (λ ws. DefinedAt (kind_of c) x (entries c ws main (rows main))) same-weights
+        defined = subst (λ ws. DefinedAt (kind_of c) x (entries c ws main (rows main))) same_weights
             (subst (λ y. DefinedAt (kind_of c) y (entries c (weights c ends.challenges) main (rows main))) own
-            (all-defined main ends.challenges c tests.no_zero));
-        value = sym last-cell
+            (all_defined main ends.challenges c tests.no_zero));
+        value = sym last_cell_lem
             ∙ sym (term2.cells main ends.challenges ends.chunk ends.aux ends.work ends.accepted c (rows main - 1) within)
             ∙ ends.last;
       }

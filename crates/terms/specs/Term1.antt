@@ -1,5 +1,5 @@
 -- Term 1: every call of a public operation ends with 0 or a number of the operation's line in documents 01 and 02; after a refusal no lent slice has changed.
--- The operations are those that `tealbobbin` exports. That a call ends is part of each contract, and none has a `requires`; number and slices are the
+-- The operations are those of `tealbobbin`, which `tealbobbin_c` exports. That a call ends is part of each contract, and none has a `requires`; number and slices are the
 -- terms that the contracts give: any words, slices of any length.
 use Rattle.std.specs.Prelude.{◌≡◌, ◌≢◌, ℕ, length}
 use mathlib.Core.List.{List, [], ◌∷◌, Memᴰ}

@@ -66,11 +66,11 @@ behind form = DIGEST ∷ INPUT ∷ OUTPUT ∷ SAMPLED ∷ row_command form ∷ O
 
 -- only 00 has the last rank
 before_end : (code : ℕ) → code < COMMANDS → (code ≡ END → ⊥) → rank code < rank END
-before_end code l h = by-test (eqb code END) refl (of_test (λ c. eqb c END || ltb (rank c) (rank END)) refl code l)
+before_end code l h = by_test (eqb code END) refl (of_test (λ c. eqb c END || ltb (rank c) (rank END)) refl code l)
   where
-    by-test : (end : Bool) → eqb code END ≡ end → (end || ltb (rank code) (rank END)) ≡ true → rank code < rank END
-    by-test true e t = absurd (h (eqb-true code END e))
-    by-test false e t = ltb-true (rank code) (rank END) t
+    by_test : (end : Bool) → eqb code END ≡ end → (end || ltb (rank code) (rank END)) ≡ true → rank code < rank END
+    by_test true e t = absurd (h (eqb-true code END e))
+    by_test false e t = ltb-true (rank code) (rank END) t
 
 abbrev pub kinds : List ℕ → List Command → List Command
 kinds [] ks = []
@@ -91,16 +91,16 @@ module _ (form : Form) where
   InLine r (code ∷ codes) = (code < COMMANDS) × OfForm form code × (rank code ≡ r) × InLine (suc r) codes
 
   module _ (ks : List Command) (known : Every Known ks) (s m : ℕ) (h : OrderedFrom s m ks) where
-    kinds-from : (r : ℕ) (codes : List ℕ) → InLine r codes → from r ks ≡ kinds codes ks
-    kinds-from r [] l = those_none (λ k. leb r (rank k.code)) ks (every_map Known (λ k. leb r (rank k.code) ≡ false) (λ k p. lt-leb r (rank k.code) (omega (arith, before_end k.code p.0 p.1))) ks known)
-    kinds-from r (code ∷ codes) l =
+    kinds_from : (r : ℕ) (codes : List ℕ) → InLine r codes → from r ks ≡ kinds codes ks
+    kinds_from r [] l = those_none (λ k. leb r (rank k.code)) ks (every_map Known (λ k. leb r (rank k.code) ≡ false) (λ k p. lt-leb r (rank k.code) (omega (arith, before_end k.code p.0 p.1))) ks known)
+    kinds_from r (code ∷ codes) l =
         let this : at r ks ≡ only code ks = those_alike (λ k. eqb (rank k.code) r) (λ k. eqb k.code code) ks (every_map Known (λ k. eqb (rank k.code) r ≡ eqb k.code code) (λ k p. rw (sym l.2) (test_by k.code code (eqb k.code code) refl p.0 l.0 p.2 l.1)) ks known) in
-        seam r s m ks h ∙ rw (this, kinds-from (suc r) codes l.3)
+        seam r s m ks h ∙ rw (this, kinds_from (suc r) codes l.3)
 
-    pub in-kinds : ks ≡ kinds (TRACE-ROWS ∷ HEIGHT ∷ behind form) ks
-    in-kinds =
+    pub in_kinds : ks ≡ kinds (TRACE-ROWS ∷ HEIGHT ∷ behind form) ks
+    in_kinds =
         sym (those_all (λ k. leb 0 (rank k.code)) ks (every_map Known (λ k. leb 0 (rank k.code) ≡ true) (λ k p. le-leb 0 (rank k.code) (omega arith)) ks known))
-        ∙ kinds-from 0 (TRACE-ROWS ∷ HEIGHT ∷ behind form) in-line
+        ∙ kinds_from 0 (TRACE-ROWS ∷ HEIGHT ∷ behind form) in-line
       where
         any : (code : ℕ) → (eqb code ROW || eqb code MONTGOMERY-ROW) ≡ false → OfForm form code
         any = of_any form

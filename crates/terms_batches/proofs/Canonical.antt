@@ -27,13 +27,13 @@ use Rattle.batch_reader.proofs.LaidOut.{end, laid}
 use Rattle.batch_writer.specs.Contents.{Contents, contents_of}
 use Rattle.batch_writer.specs.Layout.{commands_for, batch_of}
 use Rattle.terms_batches.specs.Opening.{Bytes}
-use Rattle.terms_batches.proofs.ByKind.{Known, only, kinds, behind, in-kinds}
-use Rattle.terms_batches.proofs.OneKind.{Sized, none_of, kind-is}
+use Rattle.terms_batches.proofs.ByKind.{Known, only, kinds, behind, in_kinds}
+use Rattle.terms_batches.proofs.OneKind.{Sized, none_of, kind_is}
 use Rattle.terms_batches.proofs.Heights.{only_height}
 use Rattle.terms_batches.proofs.Sections.{Section, section, joined, sections_of, announcing, commands_of_lem}
 use Rattle.terms_batches.proofs.Sound.{Proper, contents_below, Starts, Sound, sound}
 use Rattle.field_montgomery.proofs.Many.{in_form_plain}
-use Rattle.terms_batches.proofs.Differences.{sorted-already}
+use Rattle.terms_batches.proofs.Differences.{sorted_already}
 
 -- what commands bring
 abbrev pub contents_in : List Command → Contents
@@ -84,52 +84,52 @@ module _ (ks : List Command) (s : Sound (form_of ks) ks) where
   all_rows : rows (slice_from ROW ks) ≡ count (row_command form) ks
   all_rows = omega (arith, length-rows ks, rows_counted ks)
 
-  pub announced-rows : announced ks ≡ rows (slice_from ROW ks)
-  announced-rows = omega (arith, all_rows, s.all_rows, s.within (row_command form) (row_known form), row_limit (announced ks) form)
+  pub announced_rows : announced ks ≡ rows (slice_from ROW ks)
+  announced_rows = omega (arith, all_rows, s.all_rows, s.within (row_command form) (row_known form), row_limit (announced ks) form)
 
   -- the rows' words are sent as they came
-  as-sent : in_form form (slice_from ROW ks) ≡ contents (row_command form) ks
-  as-sent = in_form_plain form (contents (row_command form) ks) (contents_below (row_command form) ks s.each)
+  as_sent : in_form form (slice_from ROW ks) ≡ contents (row_command form) ks
+  as_sent = in_form_plain form (contents (row_command form) ks) (contents_below (row_command form) ks s.each)
 
   -- a kind of one word each
-  length-is : (code : ℕ) → width code / 8 ≡ 1 → length (contents code ks) ≡ count code ks
-  length-is code e = length-contents code ks ∙ rw e (omega arith)
+  length_is : (code : ℕ) → width code / 8 ≡ 1 → length (contents code ks) ≡ count code ks
+  length_is code e = length-contents code ks ∙ rw e (omega arith)
 
-  sections-are : map (section_in ks) (behind form) ≡ sections_of form (contents_in ks)
-  sections-are =
+  sections_are : map (section_in ks) (behind form) ≡ sections_of form (contents_in ks)
+  sections_are =
       let digests : count DIGEST ks ≡ 1 = omega (arith, s.digest, s.within DIGEST (lit< tt)) in
       let sampled : count SAMPLED ks ≡ 1 = omega (arith, s.sampled, s.within SAMPLED (lit< tt)) in
       rw (
         digests,
         sampled,
         all_rows,
-        as-sent,
-        length-is INPUT refl,
-        length-is OUTPUT refl,
-        length-is OP-STACK refl,
-        length-is RAM refl,
-        length-is JUMP-STACK refl,
-        sorted-already OP-STACK refl refl ks in_order,
-        sorted-already RAM refl refl ks in_order,
-        sorted-already JUMP-STACK refl refl ks in_order,
+        as_sent,
+        length_is INPUT refl,
+        length_is OUTPUT refl,
+        length_is OP-STACK refl,
+        length_is RAM refl,
+        length_is JUMP-STACK refl,
+        sorted_already OP-STACK refl refl ks in_order,
+        sorted_already RAM refl refl ks in_order,
+        sorted_already JUMP-STACK refl refl ks in_order,
       )
 
   module _ (sized : Every Sized ks) where
-    kinds-joined : (codes : List ℕ) → Every Even codes → kinds codes ks ≡ joined (map (section_in ks) codes)
-    kinds-joined [] h = refl
-    kinds-joined (code ∷ codes) h = rw (kind-is code h.0 ks sized, kinds-joined codes h.1)
+    kinds_joined : (codes : List ℕ) → Every Even codes → kinds codes ks ≡ joined (map (section_in ks) codes)
+    kinds_joined [] h = refl
+    kinds_joined (code ∷ codes) h = rw (kind_is code h.0 ks sized, kinds_joined codes h.1)
 
-    commands-are : ks ++ (end ∷ []) ≡ commands_for form (contents_in ks)
-    commands-are =
+    commands_are : ks ++ (end ∷ []) ≡ commands_for form (contents_in ks)
+    commands_are =
         let in-form = every_both Proper (λ k. OfForm form k.code) ks s.each (none_there (row_command (other_form form)) ks s.one_form) in
         let known = every_map _ (Known form) (λ k p. (p.0.known, p.0.more, p.1)) ks in-form in
-        let first : only TRACE-ROWS ks ≡ announcing (rows (slice_from ROW ks)) ∷ [] = first_is ks s.starts (s.within TRACE-ROWS (lit< tt)) sized ∙ ap (λ n. announcing n ∷ []) announced-rows in
-        let rest : kinds (behind form) ks ≡ joined (sections_of form (contents_in ks)) = kinds-joined (behind form) (refl, (refl, (refl, (refl, (even_row form, (refl, (refl, (refl, tt)))))))) ∙ ap joined sections-are in
-        ap (λ l. l ++ (end ∷ [])) (in-kinds form ks known 0 0 in_order) ∙ ap₂ (λ us vs. (us ++ (only HEIGHT ks ++ vs)) ++ (end ∷ [])) first rest ∙ ap (λ hs. announcing (rows (slice_from ROW ks)) ∷ (hs ++ joined (sections_of form (contents_in ks))) ++ (end ∷ [])) (only_height ks s.height sized) ∙ sym (commands_of_lem form (contents_in ks))
+        let first : only TRACE-ROWS ks ≡ announcing (rows (slice_from ROW ks)) ∷ [] = first_is ks s.starts (s.within TRACE-ROWS (lit< tt)) sized ∙ ap (λ n. announcing n ∷ []) announced_rows in
+        let rest : kinds (behind form) ks ≡ joined (sections_of form (contents_in ks)) = kinds_joined (behind form) (refl, (refl, (refl, (refl, (even_row form, (refl, (refl, (refl, tt)))))))) ∙ ap joined sections_are in
+        ap (λ l. l ++ (end ∷ [])) (in_kinds form ks known 0 0 in_order) ∙ ap₂ (λ us vs. (us ++ (only HEIGHT ks ++ vs)) ++ (end ∷ [])) first rest ∙ ap (λ hs. announcing (rows (slice_from ROW ks)) ∷ (hs ++ joined (sections_of form (contents_in ks))) ++ (end ∷ [])) (only_height ks s.height sized) ∙ sym (commands_of_lem form (contents_in ks))
 
 pub canonical : (batch : List ℕ) (ks : List Command) → reading batch ≡ read ks → Bytes batch → batch ≡ batch_of (form_of ks) (contents_in ks)
 unfolding batch_of
 canonical batch ks e b =
     let l = laid batch ks e in
     let s = sound batch ks e in
-    l.is ∙ sym (laid_append ks (end ∷ [])) ∙ ap laid_out (commands-are ks s (each_sized ks (END ∷ []) (rw l.is at b) s.each))
+    l.is ∙ sym (laid_append ks (end ∷ [])) ∙ ap laid_out (commands_are ks s (each_sized ks (END ∷ []) (rw l.is at b) s.each))

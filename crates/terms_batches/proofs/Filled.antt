@@ -32,20 +32,20 @@ module _ (code : ℕ) where
   abbrev w : ℕ
   w = width code / 8
 
-  filled-first : (n : ℕ) (ws : List ℕ) → Filled (suc n) code ws → length (take w ws) ≡ w
-  filled-first n ws f = length-take-le w ws (omega (arith, f.exact, suc-mul n w))
+  filled_first : (n : ℕ) (ws : List ℕ) → Filled (suc n) code ws → length (take w ws) ≡ w
+  filled_first n ws f = length-take-le w ws (omega (arith, f.exact, suc-mul n w))
 
-  pub filled-rest : (n : ℕ) (ws : List ℕ) → Filled (suc n) code ws → Filled n code (drop w ws)
-  filled-rest n ws f = record { exact = omega (arith, f.exact, suc-mul n w, length-drop w ws); below = below_drop w ws f.below }
+  pub filled_rest : (n : ℕ) (ws : List ℕ) → Filled (suc n) code ws → Filled n code (drop w ws)
+  filled_rest n ws f = record { exact = omega (arith, f.exact, suc-mul n w, length-drop w ws); below = below_drop w ws f.below }
 
   module _ (known : code < COMMANDS) (more : code ≡ END → ⊥) (even : 8 * (width code / 8) ≡ width code) where
-    pub each-with : (n : ℕ) (ws : List ℕ) → Filled n code ws → Every Proper (commands_with n code ws)
+    pub each_with : (n : ℕ) (ws : List ℕ) → Filled n code ws → Every Proper (commands_with n code ws)
     unfolding commands_with
-    each-with zero ws f = tt
-    each-with (suc n) ws f =
-        let l = filled-first n ws f in
+    each_with zero ws f = tt
+    each_with (suc n) ws f =
+        let l = filled_first n ws f in
         let b = below_take w ws f.below in
-        (record { known = known; more = more; whole = omega (arith, length-bytes_of (take w ws)); below = rw (words_of code (take w ws) l b) b }, each-with n (drop w ws) (filled-rest n ws f))
+        (record { known = known; more = more; whole = omega (arith, length-bytes_of (take w ws)); below = rw (words_of code (take w ws) l b) b }, each_with n (drop w ws) (filled_rest n ws f))
 
   module _ (wanted : ℕ) where
     count_by : (n : ℕ) (same : Bool) → cond same 1 0 + cond same n 0 ≡ cond same (suc n) 0
@@ -61,16 +61,16 @@ module _ (code : ℕ) where
     count-with zero ws = sym (none_by (eqb code wanted))
     count-with (suc n) ws = rw (count-with n (drop w ws)) (count_by n (eqb code wanted))
 
-    contents-by : (ws : List ℕ) (same : Bool) → cond same (take w ws) [] ++ cond same (drop w ws) [] ≡ cond same ws []
-    contents-by ws true = take-append-drop w ws
-    contents-by ws false = refl
+    contents_by : (ws : List ℕ) (same : Bool) → cond same (take w ws) [] ++ cond same (drop w ws) [] ≡ cond same ws []
+    contents_by ws true = take-append-drop w ws
+    contents_by ws false = refl
 
-    nothing-by : (ws : List ℕ) (same : Bool) → ws ≡ [] → [] ≡ cond same ws []
-    nothing-by ws true e = sym e
-    nothing-by ws false e = refl
+    nothing_by : (ws : List ℕ) (same : Bool) → ws ≡ [] → [] ≡ cond same ws []
+    nothing_by ws true e = sym e
+    nothing_by ws false e = refl
 
-    pub contents-with : (n : ℕ) (ws : List ℕ) → Filled n code ws → contents wanted (commands_with n code ws) ≡ cond (eqb code wanted) ws []
+    pub contents_with : (n : ℕ) (ws : List ℕ) → Filled n code ws → contents wanted (commands_with n code ws) ≡ cond (eqb code wanted) ws []
     unfolding commands_with contents
-    contents-with zero ws f = nothing-by ws (eqb code wanted) (drop_of_length-le ws {i = 0} (omega (arith, f.exact)))
-    contents-with (suc n) ws f =
-        rw (words_of code (take w ws) (filled-first n ws f) (below_take w ws f.below), contents-with n (drop w ws) (filled-rest n ws f)) (contents-by ws (eqb code wanted))
+    contents_with zero ws f = nothing_by ws (eqb code wanted) (drop_of_length-le ws {i = 0} (omega (arith, f.exact)))
+    contents_with (suc n) ws f =
+        rw (words_of code (take w ws) (filled_first n ws f) (below_take w ws f.below), contents_with n (drop w ws) (filled_rest n ws f)) (contents_by ws (eqb code wanted))

@@ -37,14 +37,14 @@ setting k = record { code = HEIGHT; operand = little_endian 1 k }
 only_one : (ks : List Command) → count HEIGHT ks ≡ 1 → Every Sized ks → only HEIGHT ks ≡ setting (height_of ks) ∷ []
 unfolding count height_of
 only_one [] n h = absurd (omega arith)
-only_one (k ∷ ks) n h = by-test (eqb k.code HEIGHT) refl n (λ m. only_one ks m h.1)
+only_one (k ∷ ks) n h = by_test (eqb k.code HEIGHT) refl n (λ m. only_one ks m h.1)
   where
-    by-test : (same : Bool) → eqb k.code HEIGHT ≡ same → cond same 1 0 + count HEIGHT ks ≡ 1 → (count HEIGHT ks ≡ 1 → only HEIGHT ks ≡ setting (height_of ks) ∷ []) → cond same (k ∷ only HEIGHT ks) (only HEIGHT ks) ≡ setting (cond same (number k.operand) (height_of ks)) ∷ []
-    by-test true e n rest =
+    by_test : (same : Bool) → eqb k.code HEIGHT ≡ same → cond same 1 0 + count HEIGHT ks ≡ 1 → (count HEIGHT ks ≡ 1 → only HEIGHT ks ≡ setting (height_of ks) ∷ []) → cond same (k ∷ only HEIGHT ks) (only HEIGHT ks) ≡ setting (cond same (number k.operand) (height_of ks)) ∷ []
+    by_test true e n rest =
         let is = eqb-true k.code HEIGHT e in
         let operand : little_endian 1 (number k.operand) ≡ k.operand = little_endian-number 1 k.operand (h.0.0 ∙ ap width is) h.0.1 in
         rw (none_of HEIGHT ks (omega arith), operand) (ap (λ c. record { code = c; operand = k.operand } ∷ []) is)
-    by-test false e n rest = rest (omega arith)
+    by_test false e n rest = rest (omega arith)
 
 -- 0B is known by its k
 pub only_height : (ks : List Command) → HeightSet ks → Every Sized ks → only HEIGHT ks ≡ commands_of_height (height_of ks)
@@ -58,58 +58,58 @@ only_height ks (inr s) h = rw (ne_eqb (height_of ks) 0 (sent (height_of ks) s.1)
 module _ (k : ℕ) where
   pub count-height : (code : ℕ) → eqb HEIGHT code ≡ false → count code (commands_of_height k) ≡ 0
   unfolding commands_of_height count
-  count-height code e = by-test (eqb k 0)
+  count-height code e = by_test (eqb k 0)
     where
-      by-test : (none : Bool) → count code (cond none [] (setting k ∷ [])) ≡ 0
-      by-test true = refl
-      by-test false = rw e
+      by_test : (none : Bool) → count code (cond none [] (setting k ∷ [])) ≡ 0
+      by_test true = refl
+      by_test false = rw e
 
-  pub counted-height : count HEIGHT (commands_of_height k) ≡ cond (eqb k 0) 0 1
+  pub counted_height : count HEIGHT (commands_of_height k) ≡ cond (eqb k 0) 0 1
   unfolding commands_of_height count
-  counted-height = by-test (eqb k 0)
+  counted_height = by_test (eqb k 0)
     where
-      by-test : (none : Bool) → count HEIGHT (cond none [] (setting k ∷ [])) ≡ cond none 0 1
-      by-test true = refl
-      by-test false = refl
+      by_test : (none : Bool) → count HEIGHT (cond none [] (setting k ∷ [])) ≡ cond none 0 1
+      by_test true = refl
+      by_test false = refl
 
-  pub contents-height : (code : ℕ) → contents code (commands_of_height k) ≡ []
+  pub contents_height : (code : ℕ) → contents code (commands_of_height k) ≡ []
   unfolding commands_of_height contents words
-  contents-height code = by-test (eqb k 0) (eqb HEIGHT code) refl
+  contents_height code = by_test (eqb k 0) (eqb HEIGHT code) refl
     where
-      by-test : (none same : Bool) → eqb HEIGHT code ≡ same → contents code (cond none [] (setting k ∷ [])) ≡ []
-      by-test true same e = refl
-      by-test false true e = rw e
-      by-test false false e = rw e
+      by_test : (none same : Bool) → eqb HEIGHT code ≡ same → contents code (cond none [] (setting k ∷ [])) ≡ []
+      by_test true same e = refl
+      by_test false true e = rw e
+      by_test false false e = rw e
 
-  pub proper-height : Every Proper (commands_of_height k)
+  pub proper_height : Every Proper (commands_of_height k)
   unfolding commands_of_height all_below words
-  proper-height = by-test (eqb k 0)
+  proper_height = by_test (eqb k 0)
     where
-      by-test : (none : Bool) → Every Proper (cond none [] (setting k ∷ []))
-      by-test true = tt
-      by-test false = (record { known = lit< tt; more = λ e. omega arith; whole = length-little_endian 1 k; below = refl }, tt)
+      by_test : (none : Bool) → Every Proper (cond none [] (setting k ∷ []))
+      by_test true = tt
+      by_test false = (record { known = lit< tt; more = λ e. omega arith; whole = length-little_endian 1 k; below = refl }, tt)
 
-  pub ordered-height : (m : ℕ) (js : List Command) → ((r a : ℕ) → r < rank DIGEST → OrderedFrom r a js) → OrderedFrom 0 m (commands_of_height k ++ js)
+  pub ordered_height : (m : ℕ) (js : List Command) → ((r a : ℕ) → r < rank DIGEST → OrderedFrom r a js) → OrderedFrom 0 m (commands_of_height k ++ js)
   unfolding commands_of_height
-  ordered-height m js h = by-test (eqb k 0)
+  ordered_height m js h = by_test (eqb k 0)
     where
-      by-test : (none : Bool) → OrderedFrom 0 m (cond none [] (setting k ∷ []) ++ js)
-      by-test true = h 0 m (lit< tt)
-      by-test false = ((omega arith, λ e. absurd (omega arith)), h 1 (key HEIGHT (little_endian 1 k)) (lit< tt))
+      by_test : (none : Bool) → OrderedFrom 0 m (cond none [] (setting k ∷ []) ++ js)
+      by_test true = h 0 m (lit< tt)
+      by_test false = ((omega arith, λ e. absurd (omega arith)), h 1 (key HEIGHT (little_endian 1 k)) (lit< tt))
 
   -- where no other 0B follows
-  pub height-there : k < 256 → (js : List Command) → count HEIGHT js ≡ 0 → height_of (commands_of_height k ++ js) ≡ k
+  pub height_there : k < 256 → (js : List Command) → count HEIGHT js ≡ 0 → height_of (commands_of_height k ++ js) ≡ k
   unfolding commands_of_height height_of
-  height-there small js z = by-test (eqb k 0) refl
+  height_there small js z = by_test (eqb k 0) refl
     where
-      by-test : (none : Bool) → eqb k 0 ≡ none → height_of (cond none [] (setting k ∷ []) ++ js) ≡ k
-      by-test true e = no_height js z ∙ sym (eqb-true k 0 e)
-      by-test false e = number_little_endian 1 k small
+      by_test : (none : Bool) → eqb k 0 ≡ none → height_of (cond none [] (setting k ∷ []) ++ js) ≡ k
+      by_test true e = no_height js z ∙ sym (eqb-true k 0 e)
+      by_test false e = number_little_endian 1 k small
 
   -- and its height is in the range that the writer asks for
   set_there : (ks : List Command) (rows : ℕ) (none : Bool) → eqb k 0 ≡ none → count HEIGHT ks ≡ cond none 0 1 → height_of ks ≡ k → announced ks ≡ rows → (not none && wrong_height rows k) ≡ false → HeightSet ks
   set_there ks rows true e n h a r = inl (n, h ∙ eqb-true k 0 e)
   set_there ks rows false e n h a r = inr (n, rw (h, a) r)
 
-  pub height-set-there : (ks : List Command) (rows : ℕ) → count HEIGHT ks ≡ cond (eqb k 0) 0 1 → height_of ks ≡ k → announced ks ≡ rows → refused_height rows k ≡ false → HeightSet ks
-  height-set-there ks rows n h a r = set_there ks rows (eqb k 0) refl n h a r
+  pub height_set_there : (ks : List Command) (rows : ℕ) → count HEIGHT ks ≡ cond (eqb k 0) 0 1 → height_of ks ≡ k → announced ks ≡ rows → refused_height rows k ≡ false → HeightSet ks
+  height_set_there ks rows n h a r = set_there ks rows (eqb k 0) refl n h a r

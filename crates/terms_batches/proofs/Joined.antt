@@ -15,11 +15,11 @@ use Rattle.batch_reader.proofs.Commands.{count-append, contents_append}
 use Rattle.batch_reader.proofs.Ordered.{OrderedFrom, Every, every_append, ordered_since}
 use Rattle.batch_reader.proofs.LaidOut.{end}
 use Rattle.batch_writer.specs.Layout.{commands_with}
-use Rattle.terms_batches.proofs.Differences.{word-is}
+use Rattle.terms_batches.proofs.Differences.{word_is}
 use Rattle.terms_batches.proofs.Sections.{Section, joined}
 use Rattle.terms_batches.proofs.Sorted.{Ascending}
 use Rattle.terms_batches.proofs.Sound.{Proper}
-use Rattle.terms_batches.proofs.Filled.{Filled, filled-rest, words_of, each-with, count-with, contents-with}
+use Rattle.terms_batches.proofs.Filled.{Filled, filled_rest, words_of, each_with, count-with, contents_with}
 
 -- whatever follows in order, the section and it are in order
 abbrev Chained : ℕ → ℕ → ℕ → List ℕ → Type 0
@@ -39,7 +39,7 @@ unkeyed (suc n) code ws e js h = ((omega arith, λ q. omega arith), rw (no_key c
 first_key : (code x : ℕ) → width code ≡ 8 → key_width code ≡ 8 → all_below (x ∷ []) ≡ true → key code (bytes_of (x ∷ [])) ≡ x
 first_key code x wide e b =
     let one : 1 ≡ width code / 8 = rw wide in
-    let both : key code (bytes_of (x ∷ [])) ∷ [] ≡ x ∷ [] = sym (word-is code wide e (bytes_of (x ∷ []))) ∙ words_of code (x ∷ []) one b in
+    let both : key code (bytes_of (x ∷ [])) ∷ [] ≡ x ∷ [] = sym (word_is code wide e (bytes_of (x ∷ []))) ∙ words_of code (x ∷ []) one b in
     cc
 
 pub keyed : (m n code : ℕ) (ws : List ℕ) → width code ≡ 8 → key_width code ≡ 8 → Filled n code ws → Ascending m ws → Chained m n code ws
@@ -51,7 +51,7 @@ keyed m (suc n) code [] wide e f a js h =
 keyed m (suc n) code (x ∷ xs) wide e f a js h =
     let one : width code / 8 ≡ 1 = rw wide in
     let k = first_key code x wide e (below_take 1 (x ∷ xs) f.below) in
-    let rest : Filled n code xs = rw one at (filled-rest code n (x ∷ xs) f) in
+    let rest : Filled n code xs = rw one at (filled_rest code n (x ∷ xs) f) in
     rw (one, k) ((omega arith, λ q. a.0), keyed x n code xs wide e rest a.1 js h)
 
 pub record Fits (s : Section) : Type 0 where
@@ -65,7 +65,7 @@ pub each_joined : (ss : List Section) → Every Fits ss → Every Proper (joined
 each_joined [] h = tt
 each_joined (s ∷ ss) h =
     let f = h.0 in
-    every_append Proper (commands_with s.n s.code s.ws) (joined ss) (each-with s.code f.known f.more f.even s.n s.ws f.filled) (each_joined ss h.1)
+    every_append Proper (commands_with s.n s.code s.ws) (joined ss) (each_with s.code f.known f.more f.even s.n s.ws f.filled) (each_joined ss h.1)
 
 -- how many of a kind, and what they bring
 abbrev pub counted : ℕ → List Section → ℕ
@@ -85,7 +85,7 @@ pub contents_joined : (wanted : ℕ) (ss : List Section) → Every Fits ss → c
 unfolding contents
 contents_joined wanted [] h = refl
 contents_joined wanted (s ∷ ss) h =
-    contents_append wanted (commands_with s.n s.code s.ws) (joined ss) ∙ rw (contents-with s.code wanted s.n s.ws h.0.filled, contents_joined wanted ss h.1)
+    contents_append wanted (commands_with s.n s.code s.ws) (joined ss) ∙ rw (contents_with s.code wanted s.n s.ws h.0.filled, contents_joined wanted ss h.1)
 
 -- each behind the last, and 00 behind all
 abbrev pub Rising : ℕ → List Section → Type 0

@@ -6,13 +6,13 @@ use Rattle.batch_writer.specs.Layout.{batch_of}
 use Rattle.terms_batches.specs.OneBatch.{OneBatch, OneForm}
 use Rattle.terms_batches.proofs.Canonical.{canonical}
 use Rattle.terms_batches.proofs.Sound.{sound, rows_of}
-use Rattle.terms_batches.proofs.Opened.{opening, left-in-slices}
+use Rattle.terms_batches.proofs.Opened.{opening, left_in_slices}
 
 pub one_batch : OneBatch
 one_batch first second bytes others lent lent₂ counts e e₂ same form =
     let o = opening first lent counts e in
     let o₂ = opening second lent₂ counts e₂ in
-    let alike = sym (left-in-slices first lent counts e) ∙ same ∙ left-in-slices second lent₂ counts e₂ in
+    let alike = sym (left_in_slices first lent counts e) ∙ same ∙ left_in_slices second lent₂ counts e₂ in
     let forms = ap form_of (sym (ap commands_of o.is_read)) ∙ form ∙ ap form_of (ap commands_of o₂.is_read) in
     canonical first o.ks o.is_read bytes ∙ ap₂ batch_of forms alike ∙ sym (canonical second o₂.ks o₂.is_read others)
 

@@ -37,17 +37,17 @@ module _ (code : ℕ) (even : 8 * (width code / 8) ≡ width code) where
       rw (take_at ws (contents code ks) (width code / 8) n, drop_at ws (contents code ks) (width code / 8) n, bytes)
       (ap (λ c. record { code = c; operand = k.operand } ∷ commands_with (count code ks) code (contents code ks)) e)
 
-  kind-by : (k : Command) (ks : List Command) (same : Bool) → eqb k.code code ≡ same → Sized k → only code ks ≡ commands_with (count code ks) code (contents code ks)
+  kind_by : (k : Command) (ks : List Command) (same : Bool) → eqb k.code code ≡ same → Sized k → only code ks ≡ commands_with (count code ks) code (contents code ks)
       → cond same (k ∷ only code ks) (only code ks) ≡ commands_with (cond same 1 0 + count code ks) code (cond same (words_in k.code k.operand) [] ++ contents code ks)
-  kind-by k ks true e sized h =
+  kind_by k ks true e sized h =
       let one : 1 + count code ks ≡ suc (count code ks) = omega arith in
       rw (h, one) (first_is k ks sized (eqb-true k.code code e))
-  kind-by k ks false e sized h = rw zero-add h
+  kind_by k ks false e sized h = rw zero-add h
 
-  pub kind-is : (ks : List Command) → Every Sized ks → only code ks ≡ commands_with (count code ks) code (contents code ks)
+  pub kind_is : (ks : List Command) → Every Sized ks → only code ks ≡ commands_with (count code ks) code (contents code ks)
   unfolding commands_with count contents
-  kind-is [] h = refl
-  kind-is (k ∷ ks) h = kind-by k ks (eqb k.code code) refl h.0 (kind-is ks h.1)
+  kind_is [] h = refl
+  kind_is (k ∷ ks) h = kind_by k ks (eqb k.code code) refl h.0 (kind_is ks h.1)
 
 pub none_of : (code : ℕ) (ks : List Command) → count code ks ≡ 0 → only code ks ≡ []
 unfolding count

@@ -70,24 +70,24 @@ module _ (batch : List ℕ) (lent : Contents) (came : Counts) (e : opened batch 
   unfolding open_slice brought
   slice_is code slice = rw (e, o.is_read)
 
-  up-to : (code n : ℕ) (slice : List ℕ) → length (slice_from code o.ks) ≡ n → take n (open_slice (opened batch lent) code batch slice) ≡ slice_from code o.ks
-  up-to code n slice l = rw (slice_is code slice) (take_at (slice_from code o.ks) (drop (length (slice_from code o.ks)) slice) n l)
+  up_to_lem : (code n : ℕ) (slice : List ℕ) → length (slice_from code o.ks) ≡ n → take n (open_slice (opened batch lent) code batch slice) ≡ slice_from code o.ks
+  up_to_lem code n slice l = rw (slice_is code slice) (take_at (slice_from code o.ks) (drop (length (slice_from code o.ks)) slice) n l)
 
   whole : (code : ℕ) (slice : List ℕ) → length slice ≡ length (slice_from code o.ks) → open_slice (opened batch lent) code batch slice ≡ slice_from code o.ks
   whole code slice l = slice_is code slice ∙ rw (drop_of_length-le slice {i = length (slice_from code o.ks)} (omega arith)) (append-nil (slice_from code o.ks))
 
-  pub left-in-slices : up_to came (slices_after batch lent) ≡ contents_in o.ks
-  left-in-slices =
+  pub left_in_slices : up_to came (slices_after batch lent) ≡ contents_in o.ks
+  left_in_slices =
       let ks = o.ks in
       let s = sound batch ks o.is_read in
       let lengths = whole_lengths lent.trace lent.op_stack lent.ram lent.jump_stack lent.sampled lent.digest lent.input lent.output o.right in
-      let trace = up-to ROW (came.rows * MAIN-WIDTH) lent.trace (omega (arith, length-rows ks, ap (λ c. c.rows) o.came_is)) in
-      let op_stack = up-to OP-STACK came.op_stack lent.op_stack (omega (arith, length-contents OP-STACK ks, ap (λ c. c.op_stack) o.came_is)) in
-      let ram = up-to RAM came.ram lent.ram (omega (arith, length-contents RAM ks, ap (λ c. c.ram) o.came_is)) in
-      let jump_stack = up-to JUMP-STACK came.jump_stack lent.jump_stack (omega (arith, length-contents JUMP-STACK ks, ap (λ c. c.jump_stack) o.came_is)) in
+      let trace = up_to_lem ROW (came.rows * MAIN-WIDTH) lent.trace (omega (arith, length-rows ks, ap (λ c. c.rows) o.came_is)) in
+      let op_stack = up_to_lem OP-STACK came.op_stack lent.op_stack (omega (arith, length-contents OP-STACK ks, ap (λ c. c.op_stack) o.came_is)) in
+      let ram = up_to_lem RAM came.ram lent.ram (omega (arith, length-contents RAM ks, ap (λ c. c.ram) o.came_is)) in
+      let jump_stack = up_to_lem JUMP-STACK came.jump_stack lent.jump_stack (omega (arith, length-contents JUMP-STACK ks, ap (λ c. c.jump_stack) o.came_is)) in
       let sampled = whole SAMPLED lent.sampled (omega (arith, lengths.0, length-contents SAMPLED ks, s.sampled, s.within SAMPLED (lit< tt))) in
       let digest = whole DIGEST lent.digest (omega (arith, lengths.1, length-contents DIGEST ks, s.digest, s.within DIGEST (lit< tt))) in
-      let input = up-to INPUT came.input lent.input (omega (arith, length-contents INPUT ks, ap (λ c. c.input) o.came_is)) in
-      let output = up-to OUTPUT came.output lent.output (omega (arith, length-contents OUTPUT ks, ap (λ c. c.output) o.came_is)) in
+      let input = up_to_lem INPUT came.input lent.input (omega (arith, length-contents INPUT ks, ap (λ c. c.input) o.came_is)) in
+      let output = up_to_lem OUTPUT came.output lent.output (omega (arith, length-contents OUTPUT ks, ap (λ c. c.output) o.came_is)) in
       let log2_height = ap (λ c. c.log2_height) o.came_is in
       λ i. record { trace = trace i; op_stack = op_stack i; ram = ram i; jump_stack = jump_stack i; sampled = sampled i; digest = digest i; input = input i; output = output i; log2_height = log2_height i }

@@ -18,19 +18,19 @@ module _ {X : Type 0} (F : List ℕ → X) (swap : (v w : ℕ) (ws : List ℕ) �
   inserted_by w v vs true h = refl
   inserted_by w v vs false h = under v (inserted w vs) (w ∷ vs) h ∙ swap v w vs
 
-  inserted-alike : (w : ℕ) (ws : List ℕ) → F (inserted w ws) ≡ F (w ∷ ws)
+  inserted_alike : (w : ℕ) (ws : List ℕ) → F (inserted w ws) ≡ F (w ∷ ws)
   unfolding inserted
-  inserted-alike w [] = refl
-  inserted-alike w (v ∷ vs) = inserted_by w v vs (leb w v) (inserted-alike w vs)
+  inserted_alike w [] = refl
+  inserted_alike w (v ∷ vs) = inserted_by w v vs (leb w v) (inserted_alike w vs)
 
-  pub sorted-alike : (ws : List ℕ) → F (sorted ws) ≡ F ws
+  pub sorted_alike : (ws : List ℕ) → F (sorted ws) ≡ F ws
   unfolding sorted
-  sorted-alike [] = refl
-  sorted-alike (w ∷ ws) = inserted-alike w (sorted ws) ∙ under w (sorted ws) ws (sorted-alike ws)
+  sorted_alike [] = refl
+  sorted_alike (w ∷ ws) = inserted_alike w (sorted ws) ∙ under w (sorted ws) ws (sorted_alike ws)
 
 same_count : (c : ℕ) (ws : List ℕ) → count c (sorted ws) ≡ count c ws
 unfolding count
-same_count c = sorted-alike (count c) (λ v w ws. omega arith) (λ v us ws e. ap (◌+◌ (cond (eqb v c) 1 0)) e)
+same_count c = sorted_alike (count c) (λ v w ws. omega arith) (λ v us ws e. ap (◌+◌ (cond (eqb v c) 1 0)) e)
 
 and_swap : (a b c : Bool) → (a && (b && c)) ≡ (b && (a && c))
 and_swap true b c = refl
@@ -39,7 +39,7 @@ and_swap false false c = refl
 
 pub below_sorted : (ws : List ℕ) → all_below (sorted ws) ≡ all_below ws
 unfolding all_below
-below_sorted = sorted-alike all_below (λ v w ws. and_swap (ltb v p) (ltb w p) (all_below ws)) (λ v us ws e. rw e)
+below_sorted = sorted_alike all_below (λ v w ws. and_swap (ltb v p) (ltb w p) (all_below ws)) (λ v us ws e. rw e)
 
 -- each word is at least the one before it, and the first at least m
 abbrev pub Ascending : ℕ → List ℕ → Type 0

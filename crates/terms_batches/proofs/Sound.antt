@@ -35,11 +35,11 @@ pub record Proper (k : Command) : Type 0 where
 pub contents_below : (code : ℕ) (ks : List Command) → Every Proper ks → all_below (contents code ks) ≡ true
 unfolding contents all_below
 contents_below code [] h = refl
-contents_below code (k ∷ ks) h = below_append (words_for code k.code k.operand) (contents code ks) (kind-below (eqb k.code code)) (contents_below code ks h.1)
+contents_below code (k ∷ ks) h = below_append (words_for code k.code k.operand) (contents code ks) (kind_below (eqb k.code code)) (contents_below code ks h.1)
   where
-    kind-below : (same : Bool) → all_below (cond same (words_in k.code k.operand) []) ≡ true
-    kind-below true = h.0.below
-    kind-below false = refl
+    kind_below : (same : Bool) → all_below (cond same (words_in k.code k.operand) []) ≡ true
+    kind_below true = h.0.below
+    kind_below false = refl
 
 -- 01 stands first
 abbrev pub Starts : List Command → Type 0
@@ -120,9 +120,9 @@ module _ (form : Form) (before : List Command) (k : Command) (after : List Comma
   of_form e = omega (arith, s.one_form, count_past (row_command (other_form form)) before k after e)
 
   -- once its place, its rows and its height are right
-  next-by : (eqb (count TRACE-ROWS before) 0 && not (eqb k.code TRACE-ROWS)) ≡ false → count k.code before < limit (announced before) k.code
+  next_by : (eqb (count TRACE-ROWS before) 0 && not (eqb k.code TRACE-ROWS)) ≡ false → count k.code before < limit (announced before) k.code
       → wrong_row_count k.code (take (width k.code) k.operand) ≡ false → height_out_of_range (announced before) k.code (take (width k.code) k.operand) ≡ false → Next before k
-  next-by first under row_count height =
+  next_by first under row_count height =
       let o = ordered_parts 0 0 before (k ∷ (after ++ (end ∷ []))) (rw append_assoc at s.in_order) in
       record {
         more = proper.more;
@@ -143,7 +143,7 @@ module _ (form : Form) (before : List Command) (k : Command) (after : List Comma
 
 next_first : (form : Form) (k : Command) (ks : List Command) → Sound form (k ∷ ks) → Next [] k
 unfolding count
-next_first form k ks s = next-by form [] k ks s (rw (eq-eqb k.code TRACE-ROWS s.starts)) (rw s.starts (lit< tt))
+next_first form k ks s = next_by form [] k ks s (rw (eq-eqb k.code TRACE-ROWS s.starts)) (rw s.starts (lit< tt))
     (rw (take_all (width k.code) k.operand (omega (arith, (every_at Proper [] k ks s.each).whole)), eq-eqb k.code TRACE-ROWS s.starts, le-leb 1 (number k.operand) s.some_rows, le-leb (number k.operand) MAX-ROWS s.few_rows))
     (rw s.starts)
 
@@ -156,11 +156,11 @@ one_first (k ∷ ks) s = rw (eq-eqb k.code TRACE-ROWS s) (omega arith)
 height_at : (before : List Command) (k : Command) (after : List Command) → count HEIGHT before ≡ 0 → k.code ≡ HEIGHT → height_of (before ++ k ∷ after) ≡ number k.operand
 unfolding count height_of
 height_at [] k after z e = rw (eq-eqb k.code HEIGHT e)
-height_at (j ∷ before) k after z e = by-test (eqb j.code HEIGHT) z (λ z₁. height_at before k after z₁ e)
+height_at (j ∷ before) k after z e = by_test (eqb j.code HEIGHT) z (λ z₁. height_at before k after z₁ e)
   where
-    by-test : (same : Bool) → cond same 1 0 + count HEIGHT before ≡ 0 → (count HEIGHT before ≡ 0 → height_of (before ++ k ∷ after) ≡ number k.operand) → cond same (number j.operand) (height_of (before ++ k ∷ after)) ≡ number k.operand
-    by-test true z h = absurd (omega arith)
-    by-test false z h = h (omega arith)
+    by_test : (same : Bool) → cond same 1 0 + count HEIGHT before ≡ 0 → (count HEIGHT before ≡ 0 → height_of (before ++ k ∷ after) ≡ number k.operand) → cond same (number j.operand) (height_of (before ++ k ∷ after)) ≡ number k.operand
+    by_test true z h = absurd (omega arith)
+    by_test false z h = h (omega arith)
 
 module _ (form : Form) (j : Command) (before : List Command) (k : Command) (after : List Command) (s : Sound form (j ∷ before ++ k ∷ after)) where
   in_range : k.code ≡ HEIGHT → HeightSet (j ∷ before ++ k ∷ after) → wrong_height (number j.operand) (number k.operand) ≡ false
@@ -171,16 +171,16 @@ module _ (form : Form) (j : Command) (before : List Command) (k : Command) (afte
   height_by true e = in_range (eqb-true k.code HEIGHT e) s.height
   height_by false e = refl
 
-  height-later : height_out_of_range (announced (j ∷ before)) k.code (take (width k.code) k.operand) ≡ false
-  height-later = rw (take_all (width k.code) k.operand (omega (arith, (proper form (j ∷ before) k after s).whole))) (height_by (eqb k.code HEIGHT) refl)
+  height_later : height_out_of_range (announced (j ∷ before)) k.code (take (width k.code) k.operand) ≡ false
+  height_later = rw (take_all (width k.code) k.operand (omega (arith, (proper form (j ∷ before) k after s).whole))) (height_by (eqb k.code HEIGHT) refl)
 
 next_later : (form : Form) (j : Command) (before : List Command) (k : Command) (after : List Command) → Sound form (j ∷ before ++ k ∷ after) → Next (j ∷ before) k
 next_later form j before k after s =
     let one = one_first (j ∷ before) s.starts in
     let other : k.code ≡ TRACE-ROWS → ⊥ = λ e. omega (arith, s.within TRACE-ROWS (lit< tt), count_past TRACE-ROWS (j ∷ before) k after e) in
-    next-by form (j ∷ before) k after s (rw (ne_eqb (count TRACE-ROWS (j ∷ before)) 0 (λ e. omega arith)))
+    next_by form (j ∷ before) k after s (rw (ne_eqb (count TRACE-ROWS (j ∷ before)) 0 (λ e. omega arith)))
     (omega (arith, s.within k.code (proper form (j ∷ before) k after s).known, count_past k.code (j ∷ before) k after refl)) (rw (ne_eqb k.code TRACE-ROWS other))
-    (height-later form j before k after s)
+    (height_later form j before k after s)
 
 nexts : (form : Form) (j : Command) (before ks : List Command) → Sound form (j ∷ before ++ ks) → Faultless (j ∷ before) ks
 nexts form j before [] s = tt

@@ -1,4 +1,4 @@
--- Term 1 over calls of the functions that `tealbobbin` exports: what a caller learns from a function's own contract.
+-- Term 1 over calls of the functions of `tealbobbin`, which `tealbobbin_c` exports: what a caller learns from a function's own contract.
 use Rattle.std.specs.Prelude.{◌≡◌, List, [], ◌∷◌, ℕ, length}
 use Rattle.std.specs.Borrow.{Bor}
 use denote.Triple.Clauses.{at_exit}
@@ -83,7 +83,7 @@ abbrev pub each : Slices → List (List ℕ)
 each s =
     s.trace ∷ s.op_stack ∷ s.ram ∷ s.jump_stack ∷ s.sampled ∷ s.digest ∷ s.input ∷ s.output ∷ s.counts ∷ []
 
--- Every function that `tealbobbin` exports, with the line of term 1.
+-- Every function of `tealbobbin`, with the line of term 1.
 pub record Term1OfCalls : Type 0 where
   pub base_add : Call (word ∷ word ∷ mut ∷ []) (at_exit abi.tealbobbin_base_add.ended) abi.tealbobbin_base_add.Reads.Asked abi.tealbobbin_base_add.Reads.Learnt
       (1 ∷ 2 ∷ []) (λ a b out. (base_number_into out (base_add a b), base_into out (base_add a b) ∷ []))

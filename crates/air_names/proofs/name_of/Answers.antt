@@ -24,8 +24,8 @@ module _ (text : List ℕ) (n : ℕ) where
   next : n < list.length text → n < 48 → before_space (drop n (take 48 text)) ≡ split (get_or text n 0) (drop (suc n) (take 48 text))
   next h g = ap before_space (drop-cons (take 48 text) n 0 (omega (arith, length-take 48 text))) ∙ ap (λ b. split b (drop (suc n) (take 48 text))) (get_or-take 48 text n 0 g)
 
-  at-space : n < list.length text → n < 48 → get_or text n 0 ≡ 32 → before_space (drop n (take 48 text)) ≡ []
-  at-space h g e = next h g ∙ ap (λ b. split b (drop (suc n) (take 48 text))) e
+  at_space : n < list.length text → n < 48 → get_or text n 0 ≡ 32 → before_space (drop n (take 48 text)) ≡ []
+  at_space h g e = next h g ∙ ap (λ b. split b (drop (suc n) (take 48 text))) e
 
   goes_on : (bytes : List ℕ) → n < list.length text → n < 48 → n < list.length bytes → (get_or text n 0 ≡ 32 → ⊥)
       → take (suc n) (set bytes n (get_or text n 0)) ++ before_space (drop (suc n) (take 48 text)) ≡ take n bytes ++ before_space (drop n (take 48 text))
@@ -57,7 +57,7 @@ returns-then-text-length-eq32 c =
     let text = c.args.text.now in
     let n = c.loop-length.length in
     let room : n ≤ list.length c.loop-length.bytes = omega arith in
-    let spelt = whole c.loop-length.invariant.3 (at-space text n (omega arith) (omega arith) c.if-text-length-eq32.true) in
+    let spelt = whole c.loop-length.invariant.3 (at_space text n (omega arith) (omega arith) c.if-text-length-eq32.true) in
     record { long = counted n c.loop-length.bytes room spelt; spelt = spelt }
 
 pub loop-length-preserved : goal.loop-length-preserved

@@ -7,7 +7,7 @@ use lib.ListN.{length, drop}
 use Rattle.batch_commands.specs.Format.{width}
 use Rattle.batch_reader.specs.declared.Step.TheVariants.{Stop, Next}
 use Rattle.batch_reader.specs.Steps.{step_of}
-use Rattle.batch_reader.proofs.Reached.{Reached, nothing_read, stopped-there, known, whole, came-few, reached-next}
+use Rattle.batch_reader.proofs.Reached.{Reached, nothing_read, stopped_there, known, whole, came_few, reached_next}
 use Rattle.batch_reader.proofs.read.Goals as goal
 
 pub loop-answer-init : goal.loop-answer-init
@@ -22,7 +22,7 @@ returns-in-Stop c =
     let at = c.loop-answer.opener.at in
     let here = c.loop-answer.invariant in
     let stop : step_of seen (drop at batch) ≡ Stop c.in-Stop.answer = rw here.0 at (sym c.step_at.ensures ∙ c.in-Stop.is) in
-    stopped-there batch seen at here.1 c.in-Stop.answer stop
+    stopped_there batch seen at here.1 c.in-Stop.answer stop
 
 pub seen_past-seen-requires : goal.seen_past-seen-requires
 seen_past-seen-requires c =
@@ -32,7 +32,7 @@ seen_past-seen-requires c =
     let here = c.loop-answer.invariant in
     let code = c.in-Next.code in
     let next : step_of seen (drop at batch) ≡ Next code = rw here.0 at (sym c.step_at.ensures ∙ c.in-Next.is) in
-    (known batch seen at here.1 code next, rw here.0 (whole batch seen at here.1 code next), came-few batch seen at here.1 code next)
+    (known batch seen at here.1 code next, rw here.0 (whole batch seen at here.1 code next), came_few batch seen at here.1 code next)
 
 pub past-opener-requires : goal.past-opener-requires
 past-opener-requires c =
@@ -64,4 +64,4 @@ loop-answer-preserved c =
     let code = c.in-Next.code in
     let next : step_of seen (drop at batch) ≡ Next code = rw here.0 at (sym c.step_at.ensures ∙ c.in-Next.is) in
     let past = c.past-opener.ensures in
-    (ap (λ b. b.now) past.0 ∙ here.0, rw (past.1, c.seen_past-seen.ensures, here.0) (reached-next batch seen at here.1 code next))
+    (ap (λ b. b.now) past.0 ∙ here.0, rw (past.1, c.seen_past-seen.ensures, here.0) (reached_next batch seen at here.1 code next))

@@ -10,9 +10,9 @@ use Rattle.table_rows.specs.Rows.{rows}
 use Rattle.field_montgomery.specs.declared.Form.{Form}
 use Rattle.batch_writer.specs.Contents.{Contents, contents_of}
 use Rattle.batch_writer.specs.Write.{right_lengths, refused_height, write_answer}
-use Rattle.batch_writer.proofs.Lengths.{by-numbers}
+use Rattle.batch_writer.proofs.Lengths.{by_numbers}
 use Rattle.batch_writer.proofs.Heights.{small}
-use Rattle.batch_writer.proofs.Answers.{wrong-lengths, no_rows, many-rows, wrong-height, wrong-words, all_done, as_it_was, the-batch}
+use Rattle.batch_writer.proofs.Answers.{wrong_lengths, no_rows, many-rows, wrong-height, wrong-words, all_done, as_it_was, the_batch}
 use Rattle.batch_writer.proofs.write.Goals as goal
 
 pub returns-then-not-right_lengths : goal.returns-then-not-right_lengths
@@ -21,8 +21,8 @@ returns-then-not-right_lengths c =
     let size : ℕ = length c.args.batch.now in
     let of : Contents = given in
     let form : Form = c.args.form in
-    let tested : right_lengths (form) (of) (size) ≡ c.right_lengths.result = by-numbers (of) (form) (size) ∙ sym c.right_lengths.ensures in
-    let e = wrong-lengths (form) (of) (size) (tested ∙ c.if-not-right_lengths.true) in record { answer = e; batch = as_it_was (form) (of) c.args.batch.now e }
+    let tested : right_lengths (form) (of) (size) ≡ c.right_lengths.result = by_numbers (of) (form) (size) ∙ sym c.right_lengths.ensures in
+    let e = wrong_lengths (form) (of) (size) (tested ∙ c.if-not-right_lengths.true) in record { answer = e; batch = as_it_was (form) (of) c.args.batch.now e }
 
 pub returns-then-rows-lt1 : goal.returns-then-rows-lt1
 returns-then-rows-lt1 c =
@@ -30,7 +30,7 @@ returns-then-rows-lt1 c =
     let size : ℕ = length c.args.batch.now in
     let of : Contents = given in
     let form : Form = c.args.form in
-    let tested : right_lengths (form) (of) (size) ≡ c.right_lengths.result = by-numbers (of) (form) (size) ∙ sym c.right_lengths.ensures in
+    let tested : right_lengths (form) (of) (size) ≡ c.right_lengths.result = by_numbers (of) (form) (size) ∙ sym c.right_lengths.ensures in
     let right : right_lengths (form) (of) (size) ≡ true = tested ∙ c.if-not-right_lengths.false in
     let e = no_rows (form) (of) (size) (right) c.if-rows-lt1.true in record { answer = e; batch = as_it_was (form) (of) c.args.batch.now e }
 
@@ -40,7 +40,7 @@ returns-then-rows-gt-MAX_ROWS c =
     let size : ℕ = length c.args.batch.now in
     let of : Contents = given in
     let form : Form = c.args.form in
-    let tested : right_lengths (form) (of) (size) ≡ c.right_lengths.result = by-numbers (of) (form) (size) ∙ sym c.right_lengths.ensures in
+    let tested : right_lengths (form) (of) (size) ≡ c.right_lengths.result = by_numbers (of) (form) (size) ∙ sym c.right_lengths.ensures in
     let right : right_lengths (form) (of) (size) ≡ true = tested ∙ c.if-not-right_lengths.false in
     let e = many-rows (form) (of) (size) (right) c.if-rows-lt1.false c.if-rows-gt-MAX_ROWS.true in record { answer = e; batch = as_it_was (form) (of) c.args.batch.now e }
 
@@ -50,7 +50,7 @@ returns-then-refused_height c =
     let size : ℕ = length c.args.batch.now in
     let of : Contents = given in
     let form : Form = c.args.form in
-    let tested : right_lengths (form) (of) (size) ≡ c.right_lengths.result = by-numbers (of) (form) (size) ∙ sym c.right_lengths.ensures in
+    let tested : right_lengths (form) (of) (size) ≡ c.right_lengths.result = by_numbers (of) (form) (size) ∙ sym c.right_lengths.ensures in
     let right : right_lengths (form) (of) (size) ≡ true = tested ∙ c.if-not-right_lengths.false in
     let e = wrong-height (form) (of) (size) (right) c.if-rows-lt1.false c.if-rows-gt-MAX_ROWS.false (sym c.refused_height.ensures ∙ c.if-refused_height.true) in record { answer = e; batch = as_it_was (form) (of) c.args.batch.now e }
 
@@ -60,7 +60,7 @@ returns-then-not-all_words_below c =
     let size : ℕ = length c.args.batch.now in
     let of : Contents = given in
     let form : Form = c.args.form in
-    let tested : right_lengths (form) (of) (size) ≡ c.right_lengths.result = by-numbers (of) (form) (size) ∙ sym c.right_lengths.ensures in
+    let tested : right_lengths (form) (of) (size) ≡ c.right_lengths.result = by_numbers (of) (form) (size) ∙ sym c.right_lengths.ensures in
     let right : right_lengths (form) (of) (size) ≡ true = tested ∙ c.if-not-right_lengths.false in
     let in_range : refused_height (rows (of).trace) (of).log2_height ≡ false = sym c.refused_height.ensures ∙ c.if-refused_height.false in
     let words = c.all_words_below in
@@ -72,7 +72,7 @@ put_batch-requires c =
     let size : ℕ = length c.args.batch.now in
     let of : Contents = given in
     let form : Form = c.args.form in
-    let tested : right_lengths (form) (of) (size) ≡ c.right_lengths.result = by-numbers (of) (form) (size) ∙ sym c.right_lengths.ensures in
+    let tested : right_lengths (form) (of) (size) ≡ c.right_lengths.result = by_numbers (of) (form) (size) ∙ sym c.right_lengths.ensures in
     let right : right_lengths (form) (of) (size) ≡ true = tested ∙ c.if-not-right_lengths.false in
     let in_range : refused_height (rows (of).trace) (of).log2_height ≡ false = sym c.refused_height.ensures ∙ c.if-refused_height.false in record { trace_bound = (c.if-rows-gt-MAX_ROWS.false, small (rows (of).trace) (of).log2_height (in_range)); batch_value = right }
 
@@ -82,9 +82,9 @@ returns c =
     let size : ℕ = length c.args.batch.now in
     let of : Contents = given in
     let form : Form = c.args.form in
-    let tested : right_lengths (form) (of) (size) ≡ c.right_lengths.result = by-numbers (of) (form) (size) ∙ sym c.right_lengths.ensures in
+    let tested : right_lengths (form) (of) (size) ≡ c.right_lengths.result = by_numbers (of) (form) (size) ∙ sym c.right_lengths.ensures in
     let right : right_lengths (form) (of) (size) ≡ true = tested ∙ c.if-not-right_lengths.false in
     let in_range : refused_height (rows (of).trace) (of).log2_height ≡ false = sym c.refused_height.ensures ∙ c.if-refused_height.false in
     let done : Done ≡ write_answer (form) (of) (size) = let words = c.all_words_below in
     all_done (form) (of) (size) (right) c.if-rows-lt1.false c.if-rows-gt-MAX_ROWS.false (in_range) (sym words.ensures ∙ c.if-not-all_words_below.false) in
-    let e = done in record { answer = e; batch = c.put_batch.ensures ∙ the-batch (form) (of) c.args.batch.now e }
+    let e = done in record { answer = e; batch = c.put_batch.ensures ∙ the_batch (form) (of) c.args.batch.now e }

@@ -12,7 +12,7 @@ use Rattle.isa_decoding.proofs.Unread.{unread}
 use Rattle.table_rows.proofs.Rows.{row_part, rest_part}
 use Rattle.column_entries.specs.Row.{instruction_of}
 use Rattle.extend_answer.specs.Strict.{is_read, undecodable, undecodable_from}
-use Rattle.extend_answer.proofs.Undecodable.{from_start, row-fails, row-decodes, row-not-below, row_below, no-row-left}
+use Rattle.extend_answer.proofs.Undecodable.{from_start, row_fails, row_decodes, row_not_below, row_below, no_row_left}
 use Rattle.extend_answer.proofs.strict_rows_answer.Goals as goal
 
 pub loop-c-init : goal.loop-c-init
@@ -24,14 +24,14 @@ returns-in_default c =
     let row = c.loop-c.c in
     let said = sym (c.instruction_from_row.ensures ∙ ap instruction_of (row_part main row)) in
     let unread_row = ap is_read said ∙ unread (λ d. is_read d ≡ false) refl (λ k i. refl) c.instruction_from_row.result c.in_default.keys2 in
-    c.words_answer.ensures ∙ rw (ap all_below (rest_part main (row * 39)) ∙ sym c.loop-c.invariant.1, c.loop-c.invariant.2 ∙ row-fails main row _ c.loop-c-test.true unread_row)
+    c.words_answer.ensures ∙ rw (ap all_below (rest_part main (row * 39)) ∙ sym c.loop-c.invariant.1, c.loop-c.invariant.2 ∙ row_fails main row _ c.loop-c-test.true unread_row)
 
 pub returns-then-not-all_below : goal.returns-then-not-all_below
 returns-then-not-all_below c =
     let main = c.args.main.now in
     let row = c.loop-c.c in
     let over = ap all_below (sym (row_part main row)) ∙ sym c.all_below.ensures ∙ c.if-not-all_below.true in
-    rw (c.loop-c.invariant.1 ∙ row-not-below main row 0 over)
+    rw (c.loop-c.invariant.1 ∙ row_not_below main row 0 over)
 
 pub loop-c-preserved : goal.loop-c-preserved
 loop-c-preserved c =
@@ -41,7 +41,7 @@ loop-c-preserved c =
     let under = ap all_below (sym (row_part main row)) ∙ sym c.all_below.ensures ∙ c.if-not-all_below.false in (
       search rules,
       c.loop-c.invariant.1 ∙ row_below main row 0 under,
-      c.loop-c.invariant.2 ∙ row-decodes main row _ c.loop-c-test.true (ap is_read (said ∙ c.in-Read.is)),
+      c.loop-c.invariant.2 ∙ row_decodes main row _ c.loop-c-test.true (ap is_read (said ∙ c.in-Read.is)),
     )
 
 pub returns : goal.returns
@@ -49,4 +49,4 @@ returns c =
     let main = c.args.main.now in
     let row = c.loop-c.c in
     let whole = eqb-true (length main % 39) 0 c.requires in
-    rw (c.loop-c.invariant.1 ∙ holds_past main (row * 39) (omega (arith, whole)), c.loop-c.invariant.2 ∙ no-row-left main row _ c.loop-c-test.false)
+    rw (c.loop-c.invariant.1 ∙ holds_past main (row * 39) (omega (arith, whole)), c.loop-c.invariant.2 ∙ no_row_left main row _ c.loop-c-test.false)

@@ -12,7 +12,7 @@ use Rattle.isa_decoding.proofs.Unread.{unread}
 use Rattle.table_rows.proofs.Rows.{row_part, rest_part}
 use Rattle.column_entries.specs.Row.{instruction_of}
 use Rattle.extend_answer.specs.Strict.{is_read, undecodable, undecodable_from}
-use Rattle.extend_answer.proofs.Undecodable.{from_start, row-fails, row-decodes, row-not-below, row_below, no-row-left}
+use Rattle.extend_answer.proofs.Undecodable.{from_start, row_fails, row_decodes, row_not_below, row_below, no_row_left}
 use Rattle.extend_answer.proofs.strict_rows_answer.Given as goal
 
 abbrev pub invariant-loop-c : goal.invariant-loop-c

@@ -8,7 +8,7 @@ use Rattle.table_fill.proofs.Filled.{rows_replaced}
 use Rattle.table_rows.specs.Rows.{row_at}
 use Rattle.table_fill.specs.Fill.{filled_row}
 use Rattle.table_rows.specs.Writes.{with_row, with_rows}
-use Rattle.table_rows.proofs.Rows.{length-row, replace-past, replace-next, set_in_put}
+use Rattle.table_rows.proofs.Rows.{length-row, replace_past, replace_next, set_in_put}
 use Rattle.table_fill.proofs.copy_rows.Goals as goal
 
 pub loop-c-init : goal.loop-c-init
@@ -21,10 +21,10 @@ loop-c-preserved c =
     let k = c.loop-c.c in
     let len = length-row trace k (search rules) in
     let e : set c.copy_row.new.to (k * 39 + 38) 0 ≡ with_row 39 table k (filled_row trace (λ c. 0) k) = rw c.copy_row.ensures (set_in_put 39 table k (row_at trace k) 38 0 (search rules) (omega arith)) in
-    (search rules, length-set c.copy_row.new.to (k * 39 + 38) 0 ∙ search rules, c.loop-c.invariant.2 ∙ replace-next 39 table (filled_row trace (λ c. 0)) k (length trace / 39) (set c.copy_row.new.to (k * 39 + 38) 0) c.loop-c-test.true (search rules) (length-set (row_at trace k) 38 0 ∙ len) e)
+    (search rules, length-set c.copy_row.new.to (k * 39 + 38) 0 ∙ search rules, c.loop-c.invariant.2 ∙ replace_next 39 table (filled_row trace (λ c. 0)) k (length trace / 39) (set c.copy_row.new.to (k * 39 + 38) 0) c.loop-c-test.true (search rules) (length-set (row_at trace k) 38 0 ∙ len) e)
 
 pub returns : goal.returns
 returns c =
     let args = c.args in
     let trace = args.trace.now in
-    sym (sym (rows_replaced trace args.table.now (λ c. 0) (search rules)) ∙ c.loop-c.invariant.2 ∙ replace-past 39 c.loop-c.table (filled_row trace (λ c. 0)) c.loop-c.c (length trace / 39) c.loop-c-test.false)
+    sym (sym (rows_replaced trace args.table.now (λ c. 0) (search rules)) ∙ c.loop-c.invariant.2 ∙ replace_past 39 c.loop-c.table (filled_row trace (λ c. 0)) c.loop-c.c (length trace / 39) c.loop-c-test.false)

@@ -8,7 +8,7 @@ use Rattle.table_fill.proofs.Filled.{rows_replaced}
 use Rattle.table_rows.specs.Rows.{row_at}
 use Rattle.table_fill.specs.Fill.{filled_row}
 use Rattle.table_rows.specs.Writes.{with_row, with_rows}
-use Rattle.table_rows.proofs.Rows.{length-row, replace-past, replace-next, set_in_put}
+use Rattle.table_rows.proofs.Rows.{length-row, replace_past, replace_next, set_in_put}
 use Rattle.table_fill.proofs.copy_rows.Given as goal
 
 abbrev pub invariant-loop-c : goal.invariant-loop-c

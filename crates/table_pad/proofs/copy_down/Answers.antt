@@ -8,8 +8,8 @@ use lib.Seq.{set-set}
 use Rattle.table_pad.specs.Pad.{padding_row}
 use Rattle.table_rows.specs.Rows.{row_at}
 use Rattle.table_rows.specs.Writes.{with_row, with_rows}
-use Rattle.table_rows.proofs.Rows.{length-row, replace-past, replace-next, row_of_put}
-use Rattle.table_pad.proofs.Padded.{like, first-padding, rest-like-first}
+use Rattle.table_rows.proofs.Rows.{length-row, replace_past, replace_next, row_of_put}
+use Rattle.table_pad.proofs.Padded.{like, first_padding, rest_like_first}
 use Rattle.table_pad.proofs.copy_down.Goals as goal
 
 pub loop-c-init : goal.loop-c-init
@@ -17,7 +17,7 @@ loop-c-init c =
     let table = c.args.table.now in
     let n = c.args.table_len in
     let e : n + 1 - 1 ≡ n = omega arith in
-    (search rules, search rules, refl, rw e (first-padding table c.put_row.new.table c.row-last.result n (search rules) (search rules) (c.put_row.ensures ∙ rw c.padding_row.ensures)), refl)
+    (search rules, search rules, refl, rw e (first_padding table c.put_row.new.table c.row-last.result n (search rules) (search rules) (c.put_row.ensures ∙ rw c.padding_row.ensures)), refl)
 
 pub loop-c-preserved : goal.loop-c-preserved
 loop-c-preserved c =
@@ -27,7 +27,7 @@ loop-c-preserved c =
     let e : k + 1 - 1 ≡ k = omega arith in
     let len : length (like c.put_row.new.table n k) ≡ 39 = length-set (row_at c.put_row.new.table n) 0 k ∙ length-row c.put_row.new.table n (search rules) in
     let put : c.repeat_row.new.table ≡ with_row 39 table k (like c.put_row.new.table n k) = c.repeat_row.ensures ∙ rw (c.loop-c.invariant.3, set-set) in
-    (search rules, search rules, search rules, rw (e, put) (row_of_put table k (like c.put_row.new.table n k) (search rules) len), c.loop-c.invariant.4 ∙ replace-next 39 table (like c.put_row.new.table n) k (length c.args.table.now / 39) c.repeat_row.new.table c.loop-c-test.true (search rules) len put)
+    (search rules, search rules, search rules, rw (e, put) (row_of_put table k (like c.put_row.new.table n k) (search rules) len), c.loop-c.invariant.4 ∙ replace_next 39 table (like c.put_row.new.table n) k (length c.args.table.now / 39) c.repeat_row.new.table c.loop-c-test.true (search rules) len put)
 
 pub returns-after-loop-c : goal.returns-after-loop-c
 returns-after-loop-c c =
@@ -36,11 +36,11 @@ returns-after-loop-c c =
     let rows = length table / 39 in
     sym
     (rw (sym c.row-last.ensures)
-    (rest-like-first table c.put_row.new.table c.row-last.result n (search rules) (search rules) (c.put_row.ensures ∙ rw c.padding_row.ensures) rows (search rules)
+    (rest_like_first table c.put_row.new.table c.row-last.result n (search rules) (search rules) (c.put_row.ensures ∙ rw c.padding_row.ensures) rows (search rules)
     ∙ c.loop-c.invariant.4
-    ∙ replace-past 39 c.loop-c.table (like c.put_row.new.table n) c.loop-c.c rows c.loop-c-test.false))
+    ∙ replace_past 39 c.loop-c.table (like c.put_row.new.table n) c.loop-c.c rows c.loop-c-test.false))
 
 pub returns-else-table_len-rows : goal.returns-else-table_len-rows
 returns-else-table_len-rows c =
     let args = c.args in
-    sym (replace-past 39 args.table.now (padding_row (row_at args.table.now (args.table_len - 1))) args.table_len (length args.table.now / 39) c.if-table_len-rows.false)
+    sym (replace_past 39 args.table.now (padding_row (row_at args.table.now (args.table_len - 1))) args.table_len (length args.table.now / 39) c.if-table_len-rows.false)

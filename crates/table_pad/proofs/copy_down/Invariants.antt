@@ -8,8 +8,8 @@ use lib.Seq.{set-set}
 use Rattle.table_pad.specs.Pad.{padding_row}
 use Rattle.table_rows.specs.Rows.{row_at}
 use Rattle.table_rows.specs.Writes.{with_row, with_rows}
-use Rattle.table_rows.proofs.Rows.{length-row, replace-past, replace-next, row_of_put}
-use Rattle.table_pad.proofs.Padded.{like, first-padding, rest-like-first}
+use Rattle.table_rows.proofs.Rows.{length-row, replace_past, replace_next, row_of_put}
+use Rattle.table_pad.proofs.Padded.{like, first_padding, rest_like_first}
 use Rattle.table_pad.proofs.copy_down.Given as goal
 
 abbrev pub invariant-loop-c : goal.invariant-loop-c

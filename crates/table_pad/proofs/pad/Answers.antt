@@ -4,7 +4,7 @@ use mathlib.Core.Path.{◌≡◌, sym, ◌∙◌}
 use native.Mathlib.Omega.{arith}
 use Rattle.refusal.specs.declared.Answer.TheVariants.{Done}
 use Rattle.table_pad.specs.Pad.{pad_answer, pad_table, padded}
-use Rattle.table_pad.proofs.Padded.{Shaped, shaped, copied-down}
+use Rattle.table_pad.proofs.Padded.{Shaped, shaped, copied_down}
 use Rattle.table_pad.proofs.pad.Goals as goal
 
 pub overflow_sub-padding_rows : goal.overflow_sub-padding_rows
@@ -34,4 +34,4 @@ unfolding pad_table padded
 returns-in-Done c =
     let done : pad_answer c.args.table.now c.args.table_len ≡ Done = sym c.pad_answer-answer.ensures ∙ c.in-Done.is in
     let shape : Shaped c.args.table.now c.args.table_len = shaped c.args.table.now c.args.table_len (done) in
-    let args = c.args in record { answer = sym (done); padded = c.raise_multiplicity.ensures ∙ rw (done, copied-down args.table.now args.table_len (shape), c.copy_down.ensures) }
+    let args = c.args in record { answer = sym (done); padded = c.raise_multiplicity.ensures ∙ rw (done, copied_down args.table.now args.table_len (shape), c.copy_down.ensures) }

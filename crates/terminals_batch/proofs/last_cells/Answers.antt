@@ -8,7 +8,7 @@ use Rattle.batch_commands.specs.Format.{ROW, OP-STACK, RAM, JUMP-STACK, SAMPLED,
 use Rattle.batch.specs.Open.{open_slice}
 use Rattle.batch.specs.Lent.{zeros}
 use Rattle.batch.proofs.Opened.{within_opened}
-use Rattle.terminals_cells.specs.Terminals.{openedAnswer, openedCells, answer_after, cells_after, terminals_answer, terminals_cells}
+use Rattle.terminals_cells.specs.Terminals.{opened_answer, opened_cells, answer_after, cells_after, terminals_answer, terminals_cells}
 use borrow.Author.Rules.{rules}
 use Rattle.terminals_batch.proofs.last_cells.Goals as goal
 
@@ -52,4 +52,4 @@ returns-in-Opened c =
     let sampled = c.open-answer.ensures.sampled ∙ ap (λ a. open_slice a SAMPLED batch (zeros 177)) c.in-Opened.is in
     let digest = c.open-answer.ensures.digest ∙ ap (λ a. open_slice a DIGEST batch (zeros 5)) c.in-Opened.is in
     let input = c.open-answer.ensures.input ∙ ap (λ a. open_slice a INPUT batch (zeros 64)) c.in-Opened.is in
-    let output = c.open-answer.ensures.output ∙ ap (λ a. open_slice a OUTPUT batch (zeros 64)) c.in-Opened.is in record { answer = c.opened_cells.ensures.answer ∙ eight (openedAnswer counts) trace op_stack ram jump_stack sampled digest input output ∙ sym (ap (λ a. answer_after a batch) done); cells = c.opened_cells.ensures.cells ∙ ap (λ l. on_done result l args.cells.now) (eight (openedCells counts) trace op_stack ram jump_stack sampled digest input output ∙ sym (ap (λ a. cells_after a batch) done)) }
+    let output = c.open-answer.ensures.output ∙ ap (λ a. open_slice a OUTPUT batch (zeros 64)) c.in-Opened.is in record { answer = c.opened_cells.ensures.answer ∙ eight (opened_answer counts) trace op_stack ram jump_stack sampled digest input output ∙ sym (ap (λ a. answer_after a batch) done); cells = c.opened_cells.ensures.cells ∙ ap (λ l. on_done result l args.cells.now) (eight (opened_cells counts) trace op_stack ram jump_stack sampled digest input output ∙ sym (ap (λ a. cells_after a batch) done)) }

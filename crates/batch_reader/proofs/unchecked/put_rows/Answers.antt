@@ -14,7 +14,7 @@ use Rattle.batch_commands.specs.Form.{row_command}
 use Rattle.batch_reader.specs.Commands.{contents, form_of}
 use Rattle.batch_reader.specs.Reading.{reading, commands_of}
 use Rattle.batch_reader.specs.Answers.{brought}
-use Rattle.batch_reader.proofs.Sections.{rows-there, plain-there, montgomery-there}
+use Rattle.batch_reader.proofs.Sections.{rows_there, plain_there, montgomery_there}
 use Rattle.batch_reader.proofs.Rows.{rows_are}
 use Rattle.batch_reader.proofs.unchecked.put_rows.Goals as goal
 
@@ -22,14 +22,14 @@ room : (batch slice : List ℕ) (form : Form) → form_of (commands_of (reading 
 room batch slice form e h = rw (length-plain form (contents (row_command form) (commands_of (reading batch)))) at (rw (rows_are batch form e) at h)
 
 pub bounds-batch-at : goal.bounds-batch-at
-bounds-batch-at c = let n = rows-there c.args.batch.now c.requires.batch_value c.args.at c.requires.at_value in omega arith
+bounds-batch-at c = let n = rows_there c.args.batch.now c.requires.batch_value c.args.at c.requires.at_value in omega arith
 
 pub overflow_cast-batch : goal.overflow_cast-batch
 overflow_cast-batch c = omega (arith, c.type_inv.batch c.args.at)
 
 pub put_section-requires : goal.put_section-requires
 put_section-requires c =
-    let is_montgomery : form_of (commands_of (reading c.args.batch.now)) ≡ Montgomery = montgomery-there c.args.batch.now c.requires.batch_value c.args.at c.requires.at_value c.if-batch-at-eq-MONTGOMERY_ROW.true in
+    let is_montgomery : form_of (commands_of (reading c.args.batch.now)) ≡ Montgomery = montgomery_there c.args.batch.now c.requires.batch_value c.args.at c.requires.at_value c.if-batch-at-eq-MONTGOMERY_ROW.true in
     record {
       batch_value = c.requires.batch_value;
       wanted_nonzero = (lit< tt, lit< tt, rw is_montgomery (λ z. omega arith));
@@ -39,7 +39,7 @@ put_section-requires c =
 
 pub put_section-requires-else-batch-at-eq-MONTGOMERY_ROW : goal.put_section-requires-else-batch-at-eq-MONTGOMERY_ROW
 put_section-requires-else-batch-at-eq-MONTGOMERY_ROW c =
-    let is_plain : form_of (commands_of (reading c.args.batch.now)) ≡ Plain = plain-there c.args.batch.now c.requires.batch_value c.args.at c.requires.at_value c.if-batch-at-eq-MONTGOMERY_ROW.false in
+    let is_plain : form_of (commands_of (reading c.args.batch.now)) ≡ Plain = plain_there c.args.batch.now c.requires.batch_value c.args.at c.requires.at_value c.if-batch-at-eq-MONTGOMERY_ROW.false in
     record {
       batch_value = c.requires.batch_value;
       wanted_nonzero = (lit< tt, lit< tt, rw is_plain (λ z. omega arith));
@@ -49,10 +49,10 @@ put_section-requires-else-batch-at-eq-MONTGOMERY_ROW c =
 
 pub returns-then-batch-at-eq-MONTGOMERY_ROW : goal.returns-then-batch-at-eq-MONTGOMERY_ROW
 returns-then-batch-at-eq-MONTGOMERY_ROW c =
-    let is_montgomery : form_of (commands_of (reading c.args.batch.now)) ≡ Montgomery = montgomery-there c.args.batch.now c.requires.batch_value c.args.at c.requires.at_value c.if-batch-at-eq-MONTGOMERY_ROW.true in
+    let is_montgomery : form_of (commands_of (reading c.args.batch.now)) ≡ Montgomery = montgomery_there c.args.batch.now c.requires.batch_value c.args.at c.requires.at_value c.if-batch-at-eq-MONTGOMERY_ROW.true in
     record { value = c.put_section.ensures.value; slice_after = rw (rows_are c.args.batch.now Montgomery is_montgomery) c.put_section.ensures.slice_after }
 
 pub returns-else-batch-at-eq-MONTGOMERY_ROW : goal.returns-else-batch-at-eq-MONTGOMERY_ROW
 returns-else-batch-at-eq-MONTGOMERY_ROW c =
-    let is_plain : form_of (commands_of (reading c.args.batch.now)) ≡ Plain = plain-there c.args.batch.now c.requires.batch_value c.args.at c.requires.at_value c.if-batch-at-eq-MONTGOMERY_ROW.false in
+    let is_plain : form_of (commands_of (reading c.args.batch.now)) ≡ Plain = plain_there c.args.batch.now c.requires.batch_value c.args.at c.requires.at_value c.if-batch-at-eq-MONTGOMERY_ROW.false in
     record { value = c.put_section-else-batch-at-eq-MONTGOMERY_ROW.ensures.value; slice_after = rw (rows_are c.args.batch.now Plain is_plain) c.put_section-else-batch-at-eq-MONTGOMERY_ROW.ensures.slice_after }

@@ -5,7 +5,7 @@ use Prim.Native.Nat.{◌+◌, ◌-◌, ◌/◌, ◌≤◌}
 use native.Mathlib.Omega.{arith}
 use lib.ListN.{length}
 use Rattle.batch_commands.specs.Format.{width}
-use Rattle.batch_reader.proofs.Sections.{Section, begins, fits, room, goes_on, ends, not-at-end}
+use Rattle.batch_reader.proofs.Sections.{Section, begins, fits, room, goes_on, ends, not_at_end}
 use Rattle.batch_reader.proofs.unchecked.put_section.Goals as goal
 
 pub width-width-requires : goal.width-width-requires
@@ -71,4 +71,4 @@ shape_of-slice c = c.loop-place.invariant.same_length
 
 pub returns : goal.returns
 returns c =
-    absurd (not-at-end c.args.batch.now c.args.wanted c.requires.batch_value c.requires.wanted_nonzero.0 c.requires.wanted_nonzero.1 c.args.form c.args.slice.now c.loop-place.slice c.loop-place.to c.loop-place.place c.loop-place.invariant c.loop-place-test.false)
+    absurd (not_at_end c.args.batch.now c.args.wanted c.requires.batch_value c.requires.wanted_nonzero.0 c.requires.wanted_nonzero.1 c.args.form c.args.slice.now c.loop-place.slice c.loop-place.to c.loop-place.place c.loop-place.invariant c.loop-place-test.false)

@@ -5,7 +5,7 @@ use Prim.Native.Nat.{◌+◌, ◌-◌, ◌/◌, ◌≤◌}
 use native.Mathlib.Omega.{arith}
 use lib.ListN.{length}
 use Rattle.batch_commands.specs.Format.{width}
-use Rattle.batch_reader.proofs.Sections.{Section, begins, fits, room, goes_on, ends, not-at-end}
+use Rattle.batch_reader.proofs.Sections.{Section, begins, fits, room, goes_on, ends, not_at_end}
 use Rattle.batch_reader.proofs.unchecked.put_section.Given as goal
 
 abbrev pub invariant-loop-place : goal.invariant-loop-place

@@ -6,7 +6,7 @@ use native.Mathlib.Omega.{arith}
 use lib.ListN.{length, length-take, length-drop}
 use Rattle.field_montgomery.specs.Form.{in_form}
 use Rattle.field_montgomery.proofs.Many.{length-in_form, in_form_part}
-use Rattle.batch_writer.proofs.Putting.{Putting, none-put, one-put, fits, all-put}
+use Rattle.batch_writer.proofs.Putting.{Putting, none_put, one_put, fits, all_put}
 use Rattle.batch_writer.proofs.unchecked.put_commands.Given as goal
 
 abbrev pub invariant-loop-left : goal.invariant-loop-left

@@ -8,12 +8,12 @@ use Rattle.field.specs.Element.{sum}
 use Rattle.field.specs.Weighed.{weighed_of, Few}
 use Rattle.field.proofs.Totals.{more_few, few_in}
 use Rattle.column_entries.specs.Row.{weigh}
-use Rattle.column_states.proofs.Weighing.{weigh-none-left, weigh-one-more}
+use Rattle.column_states.proofs.Weighing.{weigh_none_left, weigh_one_more}
 use Rattle.column_states.proofs.unchecked.weigh.Goals as goal
 
 pub loop-i-init : goal.loop-i-init
 loop-i-init c =
-    (search rules, c.requires.few, weigh-none-left _ c.args.words.now c.args.behind (length c.args.words.now) (search rules))
+    (search rules, c.requires.few, weigh_none_left _ c.args.words.now c.args.behind (length c.args.words.now) (search rules))
 
 pub weigh_more-sums-requires : goal.weigh_more-sums-requires
 weigh_more-sums-requires c = few_in _ 15 (omega arith) c.loop-i.invariant.1
@@ -26,7 +26,7 @@ loop-i-preserved c =
       few_in _ _ (omega arith) (more_few (11 - (from + i)) c.loop-i.invariant.1 c.weigh_more-sums.ensures.1),
       c.weigh_more-sums.ensures.0
           ∙ ap (sum _) c.loop-i.invariant.2
-          ∙ weigh-one-more c.args.weights c.args.words.now c.args.behind from i (i - 1) (omega arith) (search rules) (search rules),
+          ∙ weigh_one_more c.args.weights c.args.words.now c.args.behind from i (i - 1) (omega arith) (search rules) (search rules),
     )
 
 pub returns : goal.returns

@@ -8,7 +8,7 @@ use Rattle.field.specs.Element.{sum}
 use Rattle.field.specs.Weighed.{weighed_of, Few}
 use Rattle.field.proofs.Totals.{more_few, few_in}
 use Rattle.column_entries.specs.Row.{weigh}
-use Rattle.column_states.proofs.Weighing.{weigh-none-left, weigh-one-more}
+use Rattle.column_states.proofs.Weighing.{weigh_none_left, weigh_one_more}
 use Rattle.column_states.proofs.unchecked.weigh.Given as goal
 
 abbrev pub invariant-loop-i : goal.invariant-loop-i

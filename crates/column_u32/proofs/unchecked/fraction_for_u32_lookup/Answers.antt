@@ -3,7 +3,7 @@ use borrow.Author.Rules.{rules}
 use mathlib.Core.List.{[]}
 use lib.ListN.{get_or}
 use Rattle.field_base.proofs.Below.{word_below}
-use Rattle.column_u32.proofs.U32.{split, with-result, xor, one-operand, div-mod, merkle, none, no-entries, together}
+use Rattle.column_u32.proofs.U32.{split, with_result, xor, one_operand, div_mod, merkle, none, no_entries, together}
 use Rattle.column_u32.proofs.unchecked.fraction_for_u32_lookup.Goals as goal
 
 pub and_from_xor-and-requires : goal.and_from_xor-and-requires
@@ -19,7 +19,7 @@ returns-in-4 c =
 
 pub returns-in-6 : goal.returns-in-6
 returns-in-6 c =
-    with-result _ _ _ _ c.word_at-previous_ci.ensures c.word_at-st0_prev.ensures c.word_at-st1_prev.ensures c.word_at-st0.ensures c.in-6.is
+    with_result _ _ _ _ c.word_at-previous_ci.ensures c.word_at-st0_prev.ensures c.word_at-st1_prev.ensures c.word_at-st0.ensures c.in-6.is
     c.lookup_fraction.ensures
 
 pub returns-in-22 : goal.returns-in-22
@@ -29,12 +29,12 @@ returns-in-22 c =
 
 pub returns-in-12 : goal.returns-in-12
 returns-in-12 c =
-    one-operand _ _ _ _ c.word_at-previous_ci.ensures c.word_at-st0_prev.ensures c.word_at-st0.ensures c.in-12.is
+    one_operand _ _ _ _ c.word_at-previous_ci.ensures c.word_at-st0_prev.ensures c.word_at-st0.ensures c.in-12.is
     c.lookup_fraction-in-12.ensures
 
 pub returns-in-20 : goal.returns-in-20
 returns-in-20 c =
-    div-mod _ _ _ _ c.word_at-previous_ci.ensures c.word_at-st0_prev.ensures c.word_at-st1_prev.ensures c.word_at-st0.ensures c.word_at-st1.ensures c.in-20.is
+    div_mod _ _ _ _ c.word_at-previous_ci.ensures c.word_at-st0_prev.ensures c.word_at-st1_prev.ensures c.word_at-st0.ensures c.word_at-st1.ensures c.in-20.is
     c.compress4-lt_check.ensures.0 c.compress_operands-range_check.ensures.0 c.two_fractions.ensures
 
 pub returns-in-36 : goal.returns-in-36
@@ -45,4 +45,4 @@ returns-in-36 c =
 pub returns-in_default : goal.returns-in_default
 returns-in_default c =
     let rest = c.in_default.in_default-own.rest in
-    none _ _ _ _ c.word_at-previous_ci.ensures (no-entries _ _ _ c.word_at-previous_ci.ensures (together rest.0.0.0.0.0.1 rest.0.0.0.0.1 rest.0.0.0.1 rest.0.0.1 rest.0.1 rest.1))
+    none _ _ _ _ c.word_at-previous_ci.ensures (no_entries _ _ _ c.word_at-previous_ci.ensures (together rest.0.0.0.0.0.1 rest.0.0.0.0.1 rest.0.0.0.1 rest.0.0.1 rest.0.1 rest.1))

@@ -9,20 +9,20 @@ pub overflow_sub-q-2 : goal.overflow_sub-q-2
 overflow_sub-q-2 c =
     let low : c.args.product.lo < RADIX = search rules in
     let carried : Carried c.args.product.lo c.wrapping_add_u64-q.result c.if-q-shifted.borrow =
-        elim c.if-q-shifted.branch [
-          then-q-shifted w ↦ carry _ _ _ low c.wrapping_add_u64-q.ensures.value w.if-q-shifted.true w.borrow-is
-          | else-q-shifted w ↦ no_carry _ _ _ low c.wrapping_add_u64-q.ensures.value w.if-q-shifted.false w.borrow-is
-        ] in
+    elim c.if-q-shifted.branch [
+      | then-q-shifted w ↦ carry _ _ _ low c.wrapping_add_u64-q.ensures.value w.if-q-shifted.true w.borrow-is
+      | else-q-shifted w ↦ no_carry _ _ _ low c.wrapping_add_u64-q.ensures.value w.if-q-shifted.false w.borrow-is
+    ] in
     borrows _ _ _ low carried
 
 pub sub-requires : goal.sub-requires
 sub-requires c =
     let low : c.args.product.lo < RADIX = search rules in
     let carried : Carried c.args.product.lo c.wrapping_add_u64-q.result c.if-q-shifted.borrow =
-        elim c.if-q-shifted.branch [
-          then-q-shifted w ↦ carry _ _ _ low c.wrapping_add_u64-q.ensures.value w.if-q-shifted.true w.borrow-is
-          | else-q-shifted w ↦ no_carry _ _ _ low c.wrapping_add_u64-q.ensures.value w.if-q-shifted.false w.borrow-is
-        ] in
+    elim c.if-q-shifted.branch [
+      | then-q-shifted w ↦ carry _ _ _ low c.wrapping_add_u64-q.ensures.value w.if-q-shifted.true w.borrow-is
+      | else-q-shifted w ↦ no_carry _ _ _ low c.wrapping_add_u64-q.ensures.value w.if-q-shifted.false w.borrow-is
+    ] in
     let word = carried.word in
     (search rules, omega arith)
 
@@ -30,10 +30,10 @@ pub returns : goal.returns
 returns c =
     let low : c.args.product.lo < RADIX = search rules in
     let carried : Carried c.args.product.lo c.wrapping_add_u64-q.result c.if-q-shifted.borrow =
-        elim c.if-q-shifted.branch [
-          then-q-shifted w ↦ carry _ _ _ low c.wrapping_add_u64-q.ensures.value w.if-q-shifted.true w.borrow-is
-          | else-q-shifted w ↦ no_carry _ _ _ low c.wrapping_add_u64-q.ensures.value w.if-q-shifted.false w.borrow-is
-        ] in
+    elim c.if-q-shifted.branch [
+      | then-q-shifted w ↦ carry _ _ _ low c.wrapping_add_u64-q.ensures.value w.if-q-shifted.true w.borrow-is
+      | else-q-shifted w ↦ no_carry _ _ _ low c.wrapping_add_u64-q.ensures.value w.if-q-shifted.false w.borrow-is
+    ] in
     let word = carried.word in
     let product = c.args.product in
     c.sub.ensures

@@ -13,7 +13,7 @@ use Rattle.air.specs.ChallengeId.{RECORD-WORDS}
 use Rattle.batch_reader.specs.declared.Counts.{Counts}
 use Rattle.challenges.specs.Derived.{challenges_answer, challenges_record}
 use Rattle.batch.specs.Lent.{zeros}
-use Rattle.terminals_cells.specs.Terminals.{tableAnswer, tableCells, openedAnswer, openedCells}
+use Rattle.terminals_cells.specs.Terminals.{table_answer, table_cells, opened_answer, opened_cells}
 use borrow.Author.Rules.{rules}
 use Rattle.terminals_cells.proofs.unchecked.opened_cells.Goals as goal
 
@@ -21,12 +21,12 @@ module _ (counts : Counts) (trace op_stack ram jump_stack sampled digest input o
   abbrev challenges : Answer
   challenges = challenges_answer sampled digest (take counts.input input) (take counts.output output) (zeros RECORD-WORDS)
 
-  refuses : (refusal : Refusal) → challenges ≡ Refused refusal → openedAnswer counts trace op_stack ram jump_stack sampled digest input output ≡ Refused refusal
-  unfolding openedAnswer
+  refuses : (refusal : Refusal) → challenges ≡ Refused refusal → opened_answer counts trace op_stack ram jump_stack sampled digest input output ≡ Refused refusal
+  unfolding opened_answer
   refuses refusal e = rw e
 
-  goes_on : challenges ≡ Done → openedAnswer counts trace op_stack ram jump_stack sampled digest input output ≡ tableAnswer counts.log2_height (take (counts.rows * 39) trace) (take counts.op_stack op_stack) (take counts.ram ram) (take counts.jump_stack jump_stack) (challenges_record sampled digest (take counts.input input) (take counts.output output) (zeros RECORD-WORDS))
-  unfolding openedAnswer
+  goes_on : challenges ≡ Done → opened_answer counts trace op_stack ram jump_stack sampled digest input output ≡ table_answer counts.log2_height (take (counts.rows * 39) trace) (take counts.op_stack op_stack) (take counts.ram ram) (take counts.jump_stack jump_stack) (challenges_record sampled digest (take counts.input input) (take counts.output output) (zeros RECORD-WORDS))
+  unfolding opened_answer
   goes_on e = rw e
 
 pub slice_bounds-new-end : goal.slice_bounds-new-end
@@ -58,11 +58,11 @@ returns-in-Refused c =
     let args = c.args in record { answer = sym (refuses args.counts args.trace.now args.op_stack.now args.ram.now args.jump_stack.now args.sampled.now args.digest.now args.input.now args.output.now _ (sym c.new-answer.ensures.answer ∙ c.in-Refused.is)); cells = refl }
 
 pub returns-in-Done : goal.returns-in-Done
-unfolding zeros openedCells
+unfolding zeros opened_cells
 returns-in-Done c =
     let args = c.args in
     let counts = args.counts in
     let trace = take (counts.rows * 39) args.trace.now in
     let op_stack = take counts.op_stack args.op_stack.now in
     let ram = take counts.ram args.ram.now in
-    let jump_stack = take counts.jump_stack args.jump_stack.now in record { answer = c.table_cells.ensures.answer ∙ ap (tableAnswer counts.log2_height trace op_stack ram jump_stack) c.new-answer.ensures.written ∙ sym (goes_on args.counts args.trace.now args.op_stack.now args.ram.now args.jump_stack.now args.sampled.now args.digest.now args.input.now args.output.now (sym c.new-answer.ensures.answer ∙ c.in-Done.is)); cells = c.table_cells.ensures.cells ∙ ap (λ l. on_done c.table_cells.result (tableCells counts.log2_height trace op_stack ram jump_stack l) args.cells.now) c.new-answer.ensures.written }
+    let jump_stack = take counts.jump_stack args.jump_stack.now in record { answer = c.table_cells.ensures.answer ∙ ap (table_answer counts.log2_height trace op_stack ram jump_stack) c.new-answer.ensures.written ∙ sym (goes_on args.counts args.trace.now args.op_stack.now args.ram.now args.jump_stack.now args.sampled.now args.digest.now args.input.now args.output.now (sym c.new-answer.ensures.answer ∙ c.in-Done.is)); cells = c.table_cells.ensures.cells ∙ ap (λ l. on_done c.table_cells.result (table_cells counts.log2_height trace op_stack ram jump_stack l) args.cells.now) c.new-answer.ensures.written }

@@ -9,7 +9,7 @@ use Rattle.refusal.specs.Number.{on_done}
 use Rattle.table_rows.specs.Rows.{rows}
 use Rattle.batch.specs.Lent.{zeros}
 use Rattle.terminals_extended.proofs.Zeros.{take-zeros, length-zeros}
-use Rattle.terminals_cells.specs.Terminals.{filledAnswer, filledCells, tableAnswer, tableCells}
+use Rattle.terminals_cells.specs.Terminals.{filled_answer, filled_cells, table_answer, table_cells}
 use Rattle.terminals_cells.specs.Kept.{Kept, longer}
 use Rattle.terminals_cells.proofs.Longer.{longer_zeros}
 use borrow.Author.Rules.{rules}
@@ -39,7 +39,7 @@ filled_cells-requires c =
     let trace = c.args.trace.now in record { table_value = eq-eqb _ 0 whole; kept = subst (λ (k : ℕ). Kept (rows trace) k c.padded_height-height.result) e c.kept_rows-end.ensures }
 
 pub returns : goal.returns
-unfolding tableAnswer tableCells
+unfolding table_answer table_cells
 returns c =
     let lent : take (c.kept_rows-end.result * 39) (replicate 1326 0) ≡ zeros (c.kept_rows-end.result * 39) = take-zeros (c.kept_rows-end.result * 39) 1326 (omega (arith, c.kept_rows-end.ensures.few)) in
     let args = c.args in
@@ -52,4 +52,4 @@ returns c =
     let table =
     ap (longer height) (lent)
     ∙ longer_zeros c.kept_rows-end.result height c.kept_rows-end.ensures.within
-    ∙ ap (λ (n : ℕ). zeros (n * 39)) c.padded_height-height.ensures.0 in record { answer = c.filled_cells.ensures.answer ∙ ap (filledAnswer trace op_stack ram jump_stack challenges) table; cells = c.filled_cells.ensures.cells ∙ ap (λ l. on_done c.filled_cells.result (filledCells trace op_stack ram jump_stack challenges l) args.cells.now) table }
+    ∙ ap (λ (n : ℕ). zeros (n * 39)) c.padded_height-height.ensures.0 in record { answer = c.filled_cells.ensures.answer ∙ ap (filled_answer trace op_stack ram jump_stack challenges) table; cells = c.filled_cells.ensures.cells ∙ ap (λ l. on_done c.filled_cells.result (filled_cells trace op_stack ram jump_stack challenges l) args.cells.now) table }

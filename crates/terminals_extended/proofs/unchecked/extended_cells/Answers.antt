@@ -11,7 +11,7 @@ use Rattle.table_rows.specs.Rows.{started_chunks}
 use Rattle.extend_answer.specs.Answer.{extend_answer}
 use Rattle.extend.specs.Extend.{extend_aux}
 use Rattle.batch.specs.Lent.{zeros}
-use Rattle.terminals_extended.specs.Extended.{last_row, extendedAnswer, extendedCells}
+use Rattle.terminals_extended.specs.Extended.{last_row, extended_answer, extended_cells}
 use Rattle.terminals_extended.proofs.Zeros.{take-zeros, length-zeros}
 use borrow.Author.Rules.{rules}
 use Rattle.terminals_extended.proofs.unchecked.extended_cells.Goals as goal
@@ -43,7 +43,7 @@ pub extended_into-requires : goal.extended_into-requires
 extended_into-requires c = let n = length c.args.main.now / 39 * 33 in omega (arith, ap length (take-zeros n 1122 (omega arith)) ∙ length-zeros n)
 
 pub returns : goal.returns
-unfolding extendedAnswer extendedCells
+unfolding extended_answer extended_cells
 returns c =
     let few : c.started_chunks-work_end.result * 6 ≤ 54 = omega (arith, c.started_chunks-work_end.ensures.0, nine (length c.args.main.now / 39) c.requires.1) in
     let args = c.args in

@@ -12,7 +12,7 @@ use Rattle.column_entries.specs.AuxRow.{place_of, aux_row}
 use Rattle.column_weights.specs.Ready.{ReadyTable}
 use Rattle.column_steps.specs.Walk.{through}
 use Rattle.extend_fractions.specs.Fractions.{fractions_of, Divisible}
-use Rattle.terminals_extended.specs.Extended.{extendedAnswer, extendedCells}
+use Rattle.terminals_extended.specs.Extended.{extended_answer, extended_cells}
 use Rattle.terminals_walk.specs.Grown.{EndsInPadding, Growing}
 use Rattle.terminals_walk.proofs.Walked as walk
 use borrow.Author.Rules.{rules}
@@ -27,19 +27,19 @@ walk_padding-requires c =
     let height : ℕ = c.args.height in
     let challenges : List ℕ = c.args.challenges.now in
     let growing : Growing main height = c.requires.growing in
-    let done : extendedAnswer main challenges ≡ Done = sym c.extended_cells-answer.ensures.answer ∙ c.in-Done.is in
-    let words : c.extended_cells-answer.new.cells ≡ extendedCells main challenges = c.extended_cells-answer.ensures.cells ∙ ap (λ a. on_done a (extendedCells main challenges) c.args.cells.now) c.in-Done.is in
+    let done : extended_answer main challenges ≡ Done = sym c.extended_cells-answer.ensures.answer ∙ c.in-Done.is in
+    let words : c.extended_cells-answer.new.cells ≡ extended_cells main challenges = c.extended_cells-answer.ensures.cells ∙ ap (λ a. on_done a (extended_cells main challenges) c.args.cells.now) c.in-Done.is in
     let ends : EndsInPadding main = growing.window c.if-rows-height.true in
     let e = ends in
     let k = rows main in
     let q = sym c.row-last.ensures in
-    let g = growing in record { cells_len = walk.words-length main height g challenges e done words; canonical_cells = walk.words-canonical main height g challenges e done words; ready_table = subst (ReadyTable challenges) q (walk.last-ready main height g challenges e done); first_nonzero = (g.some, omega (arith, c.rows_below-left.ensures, g.within, g.short)); divisible = subst (λ r. Divisible (fractions_of challenges (padding_row r k) (padding_row r k))) q (walk.padding-divisible main height g challenges e done) }
+    let g = growing in record { cells_len = walk.words-length main height g challenges e done words; canonical_cells = walk.words-canonical main height g challenges e done words; ready_table = subst (ReadyTable challenges) q (walk.last-ready main height g challenges e done); first_nonzero = (g.some, omega (arith, c.rows_below-left.ensures, g.within, g.short)); divisible = subst (λ r. Divisible (fractions_of challenges (padding_row r k) (padding_row r k))) q (walk.padding_divisible main height g challenges e done) }
 
 pub returns-in-Refused : goal.returns-in-Refused
 returns-in-Refused c =
     let args = c.args in
     let told = c.in-Refused.is in
-    let kept = walk.answer-kept args.main.now args.height c.requires.growing args.challenges.now in record { answer = sym (kept ∙ sym c.extended_cells-answer.ensures.answer ∙ told); cells = c.extended_cells-answer.ensures.cells ∙ ap (λ a. on_done a (extendedCells args.main.now args.challenges.now) args.cells.now) told }
+    let kept = walk.answer_kept args.main.now args.height c.requires.growing args.challenges.now in record { answer = sym (kept ∙ sym c.extended_cells-answer.ensures.answer ∙ told); cells = c.extended_cells-answer.ensures.cells ∙ ap (λ a. on_done a (extended_cells args.main.now args.challenges.now) args.cells.now) told }
 
 pub returns-then-rows-height : goal.returns-then-rows-height
 returns-then-rows-height c =
@@ -47,8 +47,8 @@ returns-then-rows-height c =
     let height : ℕ = c.args.height in
     let challenges : List ℕ = c.args.challenges.now in
     let growing : Growing main height = c.requires.growing in
-    let done : extendedAnswer main challenges ≡ Done = sym c.extended_cells-answer.ensures.answer ∙ c.in-Done.is in
-    let words : c.extended_cells-answer.new.cells ≡ extendedCells main challenges = c.extended_cells-answer.ensures.cells ∙ ap (λ a. on_done a (extendedCells main challenges) c.args.cells.now) c.in-Done.is in
+    let done : extended_answer main challenges ≡ Done = sym c.extended_cells-answer.ensures.answer ∙ c.in-Done.is in
+    let words : c.extended_cells-answer.new.cells ≡ extended_cells main challenges = c.extended_cells-answer.ensures.cells ∙ ap (λ a. on_done a (extended_cells main challenges) c.args.cells.now) c.in-Done.is in
     let ends : EndsInPadding main = growing.window c.if-rows-height.true in
     let e = ends in
     let k = rows main in
@@ -65,6 +65,6 @@ returns-else-rows-height c =
     let height : ℕ = c.args.height in
     let challenges : List ℕ = c.args.challenges.now in
     let growing : Growing main height = c.requires.growing in
-    let done : extendedAnswer main challenges ≡ Done = sym c.extended_cells-answer.ensures.answer ∙ c.in-Done.is in
-    let words : c.extended_cells-answer.new.cells ≡ extendedCells main challenges = c.extended_cells-answer.ensures.cells ∙ ap (λ a. on_done a (extendedCells main challenges) c.args.cells.now) c.in-Done.is in
-    let rest = walk.at_rest main height growing challenges c.if-rows-height.false in record { answer = sym (ap (λ t. extendedAnswer t challenges) rest ∙ done); cells = words ∙ sym (ap (λ t. extendedCells t challenges) rest) }
+    let done : extended_answer main challenges ≡ Done = sym c.extended_cells-answer.ensures.answer ∙ c.in-Done.is in
+    let words : c.extended_cells-answer.new.cells ≡ extended_cells main challenges = c.extended_cells-answer.ensures.cells ∙ ap (λ a. on_done a (extended_cells main challenges) c.args.cells.now) c.in-Done.is in
+    let rest = walk.at_rest main height growing challenges c.if-rows-height.false in record { answer = sym (ap (λ t. extended_answer t challenges) rest ∙ done); cells = words ∙ sym (ap (λ t. extended_cells t challenges) rest) }
