@@ -8,7 +8,6 @@ use native.Mathlib.Omega.{arith}
 use lib.ListN.{length, drop}
 use Rattle.field_base.specs.Words.{all_below}
 use Rattle.field_base.proofs.Below.{holds_past}
-use Rattle.isa.specs.declared.Instruction.{Instruction}
 use Rattle.isa_decoding.specs.declared.Decoded.{Decoded}
 use Rattle.isa_decoding.specs.declared.Decoded.TheVariants.{Read, Unknown, Outside}
 use Rattle.table_rows.specs.Rows.{row_at}
@@ -18,10 +17,10 @@ use Rattle.extend_answer.specs.Strict.{is_read, undecodable, undecodable_from}
 use Rattle.extend_answer.proofs.Undecodable.{from_start, row-fails, row-decodes, row-not-below, row_below, no-row-left}
 use Rattle.extend_answer.proofs.strict_rows_answer.Goals as goal
 
-not_read : (d : Decoded) → ((i : Instruction) → d ≡ Read i → ⊥) → is_read d ≡ false
-not_read (Read i) no = absurd (no i refl)
-not_read Unknown no = refl
-not_read (Outside k i) no = refl
+not_read : (d : Decoded) → ((i : _) → d ≡ Read i → ⊥) → is_read d ≡ false
+not_read (Read i) unread = absurd (unread i refl)
+not_read Unknown unread = refl
+not_read (Outside k i) unread = refl
 
 pub loop-c-init : goal.loop-c-init
 loop-c-init c = (search rules, refl, from_start _ 0 _)
