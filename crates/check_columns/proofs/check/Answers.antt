@@ -50,7 +50,7 @@ returns-then-rows-eq0 c =
     sym
     (to_rows args.main.now args.challenges.now args.offered.now (sym c.right_lengths.ensures ∙ c.if-not-right_lengths.false)
     ∙ (elim c.then-rows-eq0.branch [
-      then-rows-eq0-via-then-rows-eq0 w ↦ rw (eq-eqb n 0 w.if-rows-eq0.true)
+      | then-rows-eq0-via-then-rows-eq0 w ↦ rw (eq-eqb n 0 w.if-rows-eq0.true)
       | then-rows-eq0-via-else-rows-eq0+then-rows-gt-MAX_LEN w ↦ rw (is_long_lem n ∙ lt-ltb 4194304 n w.if-rows-gt-MAX_LEN.true, or-true)
     ]))
 

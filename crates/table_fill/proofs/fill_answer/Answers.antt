@@ -43,7 +43,7 @@ unfolding fill_answer
 returns-then-trace-ne0 c =
     let args = c.args in
     elim c.then-trace-ne0.branch [
-      then-trace-ne0-via-then-trace-ne0 w ↦ rw (ne_eqb (length args.trace.now % 39) 0 w.if-trace-ne0.true)
+      | then-trace-ne0-via-then-trace-ne0 w ↦ rw (ne_eqb (length args.trace.now % 39) 0 w.if-trace-ne0.true)
       | then-trace-ne0-via-else-trace-ne0+then-table-ne0 w ↦ rw (ne_eqb (length args.table.now % 39) 0 w.if-table-ne0.true, and-false)
       | then-trace-ne0-via-else-trace-ne0+else-table-ne0+then-op_stack-gt-MAX_LEN w ↦ rw (is_long_lem (length args.op_stack.now) ∙ lt-ltb 4194304 (length args.op_stack.now) w.if-op_stack-gt-MAX_LEN.true, or-true)
       | then-trace-ne0-via-else-trace-ne0+else-table-ne0+else-op_stack-gt-MAX_LEN+then-ram-gt-MAX_LEN w ↦ rw (is_long_lem (length args.ram.now) ∙ lt-ltb 4194304 (length args.ram.now) w.if-ram-gt-MAX_LEN.true, or-true)
@@ -58,7 +58,7 @@ returns-then-table_rows-gt-MAX_LEN c =
     sym
     (to_rows args.trace.now args.op_stack.now args.ram.now args.jump_stack.now args.table.now c.if-trace-ne0.false c.if-table-ne0.false c.if-op_stack-gt-MAX_LEN.false c.if-ram-gt-MAX_LEN.false c.if-jump_stack-gt-MAX_LEN.false
     ∙ (elim c.then-table_rows-gt-MAX_LEN.branch [
-      then-table_rows-gt-MAX_LEN-via-then-table_rows-gt-MAX_LEN w ↦ rw (is_long_lem rows ∙ lt-ltb 4194304 rows w.if-table_rows-gt-MAX_LEN.true)
+      | then-table_rows-gt-MAX_LEN-via-then-table_rows-gt-MAX_LEN w ↦ rw (is_long_lem rows ∙ lt-ltb 4194304 rows w.if-table_rows-gt-MAX_LEN.true)
       | then-table_rows-gt-MAX_LEN-via-else-table_rows-gt-MAX_LEN+then-table_rows-trace_rows w ↦ rw (lt-ltb rows (length args.trace.now / 39) w.if-table_rows-trace_rows.true, or-true)
     ]))
 
@@ -70,7 +70,7 @@ returns-then-not-all_below c =
     (to_rows args.trace.now args.op_stack.now args.ram.now args.jump_stack.now args.table.now c.if-trace-ne0.false c.if-table-ne0.false c.if-op_stack-gt-MAX_LEN.false c.if-ram-gt-MAX_LEN.false c.if-jump_stack-gt-MAX_LEN.false
     ∙ to_words args.trace.now args.op_stack.now args.ram.now args.jump_stack.now args.table.now c.if-table_rows-gt-MAX_LEN.false c.if-table_rows-trace_rows.false
     ∙ (elim c.then-not-all_below.branch [
-      then-not-all_below-via-then-not-all_below w ↦ rw (sym c.all_below.ensures ∙ w.if-not-all_below.true)
+      | then-not-all_below-via-then-not-all_below w ↦ rw (sym c.all_below.ensures ∙ w.if-not-all_below.true)
       | then-not-all_below-via-else-not-all_below+then-not-all_below-2 w ↦ rw (sym w.all_below-else-not-all_below.ensures ∙ w.if-not-all_below-2.true, and-false)
       | then-not-all_below-via-else-not-all_below+else-not-all_below-2+then-not-all_below-3 w ↦ rw (sym w.all_below-else-not-all_below-2.ensures ∙ w.if-not-all_below-3.true, and-false)
       | then-not-all_below-via-else-not-all_below+else-not-all_below-2+else-not-all_below-3+then-not-all_below-4 w ↦ rw (sym w.all_below-else-not-all_below-3.ensures ∙ w.if-not-all_below-4.true, and-false)
@@ -85,7 +85,7 @@ returns-then-not-all_under c =
     ∙ to_words args.trace.now args.op_stack.now args.ram.now args.jump_stack.now args.table.now c.if-table_rows-gt-MAX_LEN.false c.if-table_rows-trace_rows.false
     ∙ to_differences args.trace.now args.op_stack.now args.ram.now args.jump_stack.now args.table.now (sym c.all_below.ensures ∙ c.if-not-all_below.false) (sym c.all_below-else-not-all_below.ensures ∙ c.if-not-all_below-2.false) (sym c.all_below-else-not-all_below-2.ensures ∙ c.if-not-all_below-3.false) (sym c.all_below-else-not-all_below-3.ensures ∙ c.if-not-all_below-4.false)
     ∙ (elim c.then-not-all_under.branch [
-      then-not-all_under-via-then-not-all_under w ↦ rw (sym c.all_under.ensures ∙ w.if-not-all_under.true)
+      | then-not-all_under-via-then-not-all_under w ↦ rw (sym c.all_under.ensures ∙ w.if-not-all_under.true)
       | then-not-all_under-via-else-not-all_under+then-not-all_under-2 w ↦ rw (sym w.all_under-else-not-all_under.ensures ∙ w.if-not-all_under-2.true, and-false)
       | then-not-all_under-via-else-not-all_under+else-not-all_under-2+then-not-all_under-3 w ↦ rw (sym w.all_under-else-not-all_under-2.ensures ∙ w.if-not-all_under-3.true, and-false)
     ]))

@@ -37,7 +37,7 @@ returns-then-rows-lt2 c =
     let n = length c.args.table.now in
     let whole = eq-eqb (n % 39) 0 c.if-table-ne0.false in
     elim c.then-rows-lt2.branch [
-      then-rows-lt2-via-then-rows-lt2 w ↦ rw (whole, lt-ltb (n / 39) 2 w.if-rows-lt2.true)
+      | then-rows-lt2-via-then-rows-lt2 w ↦ rw (whole, lt-ltb (n / 39) 2 w.if-rows-lt2.true)
       | then-rows-lt2-via-else-rows-lt2+then-rows-gt-MAX_LEN w ↦ rw (whole, is_long_lem (n / 39) ∙ lt-ltb 4194304 (n / 39) w.if-rows-gt-MAX_LEN.true, or-true)
       | then-rows-lt2-via-else-rows-lt2+else-rows-gt-MAX_LEN+then-table_len-eq0 w ↦ rw (whole, eq-eqb c.args.table_len 0 w.if-table_len-eq0.true, or-true)
       | then-rows-lt2-via-else-rows-lt2+else-rows-gt-MAX_LEN+else-table_len-eq0+then-rows-table_len w ↦ rw (whole, lt-ltb (n / 39) c.args.table_len w.if-rows-table_len.true, or-true)
