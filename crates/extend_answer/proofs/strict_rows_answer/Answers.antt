@@ -8,12 +8,19 @@ use native.Mathlib.Omega.{arith}
 use lib.ListN.{length, drop}
 use Rattle.field_base.specs.Words.{all_below}
 use Rattle.field_base.proofs.Below.{holds_past}
-use Rattle.isa_decoding.proofs.Unread.{unread}
+use Rattle.isa_decoding.specs.declared.Decoded.{Decoded}
+use Rattle.isa_decoding.specs.declared.Decoded.TheVariants.{Read, Unknown, Outside}
+use Rattle.table_rows.specs.Rows.{row_at}
 use Rattle.table_rows.proofs.Rows.{row_part, rest_part}
 use Rattle.column_entries.specs.Row.{instruction_of}
 use Rattle.extend_answer.specs.Strict.{is_read, undecodable, undecodable_from}
 use Rattle.extend_answer.proofs.Undecodable.{from_start, row_fails, row_decodes, row_not_below, row_below, no_row_left}
 use Rattle.extend_answer.proofs.strict_rows_answer.Goals as goal
+
+not_read : (d : Decoded) → ((i : _) → d ≡ Read i → ⊥) → is_read d ≡ false
+not_read (Read i) unread = absurd (unread i refl)
+not_read Unknown unread = refl
+not_read (Outside k i) unread = refl
 
 pub loop-c-init : goal.loop-c-init
 loop-c-init c = (search rules, refl, from_start _ 0 _)
@@ -23,8 +30,8 @@ returns-in_default c =
     let main = c.args.main.now in
     let row = c.loop-c.c in
     let said = sym (c.instruction_from_row.ensures ∙ ap instruction_of (row_part main row)) in
-    let unread_row = ap is_read said ∙ unread (λ d. is_read d ≡ false) refl (λ k i. refl) c.instruction_from_row.result c.in_default.keys2 in
-    c.words_answer.ensures ∙ rw (ap all_below (rest_part main (row * 39)) ∙ sym c.loop-c.invariant.1, c.loop-c.invariant.2 ∙ row_fails main row _ c.loop-c-test.true unread_row)
+    let unread_row : is_read (instruction_of (row_at main row)) ≡ false = ap is_read said ∙ not_read c.instruction_from_row.result c.in_default.not-Read in
+    c.words_answer.ensures ∙ rw (ap all_below (rest_part main (row * 39)) ∙ sym c.loop-c.invariant.1, c.loop-c.invariant.2 ∙ row-fails main row _ c.loop-c-test.true unread_row)
 
 pub returns-then-not-all_below : goal.returns-then-not-all_below
 returns-then-not-all_below c =
