@@ -3,7 +3,7 @@ use mathlib.Core.Path.{◌≡◌, sym, ◌∙◌}
 use mathlib.Core.Bool.{true, false, not, ◌&&◌, ◌||◌}
 use mathlib.Core.List.{List}
 use Prim.Native.Nat.{ℕ, ◌-◌, ◌≤◌, ◌<◌}
-use lib.Dec.{eqb, leb, ltb}
+use lib.Dec.{eqb, leb}
 use lib.ListN.{length, take, get_or}
 use borrow.Author.Tests.{ltb-false, le-ltb, leb-false, lt-leb, not-false}
 use Rattle.field_base.specs.Words.{all_below}
@@ -12,7 +12,7 @@ use Rattle.refusal.proofs.Answers.{or-false}
 use Rattle.refusal.proofs.First.{done_exactly}
 use Rattle.batch_commands.specs.declared.Seen.{Seen}
 use Rattle.batch_commands.specs.Format.{END, TRACE-ROWS, COMMANDS, known, width, words_in, limit}
-use Rattle.batch_commands.specs.Fault.{mixed, missing, out_of_place, out_of_order, wrong_row_count, height_out_of_range, judged, fault_tests, fault}
+use Rattle.batch_commands.specs.Fault.{mixed, missing, out_of_order, wrong_row_count, height_out_of_range, judged, fault_tests, fault}
 use Rattle.batch_commands.proofs.Tables.{unknown}
 
 pub record Passes (seen : Seen) (code : ℕ) (bytes : List ℕ) : Type 0 where

@@ -41,7 +41,7 @@ use Rattle.check_relations.proofs.Place.{column_at, all_hold, first_place}
 use Rattle.check_columns.specs.Check.{check_answer}
 use Rattle.check_columns.specs.declared.CheckAnswer.{CheckAnswer}
 use Rattle.check_columns.specs.declared.CheckAnswer.TheVariants.{Checked, Refused}
-use Rattle.check_columns.proofs.Stages.{Passed, passed, verdict_is}
+use Rattle.check_columns.proofs.Stages.{passed, verdict_is}
 use Rattle.terms.specs.Check.{Lent, Check}
 use Rattle.terms.proofs.Cells.{cell_at_lem}
 

@@ -4,16 +4,15 @@ use mathlib.Core.Bool.{Bool, true, false, cond, not, ◌||◌}
 use mathlib.Core.List.Memᴰ
 use mathlib.Core.List.{List, [], ◌∷◌, ◌++◌}
 use Prim.Native.Nat.{ℕ, zero, suc, ◌*◌, ◌-◌}
-use lib.Dec.{T, eqb, leb, ltb}
+use lib.Dec.{T, eqb, ltb}
 use lib.ListN.{length, take, drop, replicate}
 use Rattle.refusal.specs.Number.{number_of, answer_number_of, on_done}
 use Rattle.refusal.specs.Tests.{Tests, ◌when◌, first_or, first}
 use Rattle.refusal.proofs.First.{stands, all_stand, found, listed, number_listed}
 use Rattle.refusal.specs.declared.Refusal.{Refusal}
-use Rattle.refusal.specs.declared.Refusal.TheVariants.{SliceLength, WordNotBelowP, RowCount, UnknownCommand, BatchCutOff, CommandOutOfPlace, CommandOutOfOrder, HeightOutOfRange}
+use Rattle.refusal.specs.declared.Refusal.TheVariants.{SliceLength, BatchCutOff}
 use Rattle.refusal.specs.declared.Answer.{Answer}
 use Rattle.refusal.specs.declared.Answer.TheVariants.{Done, Refused}
-use Rattle.field_base.specs.Words.{all_below}
 use Rattle.field_base.specs.Answers.{word_tests, words_tests, inverse_tests, base_number}
 use Rattle.field_base.specs.declared.BaseAnswer.{BaseAnswer}
 use Rattle.field_base.specs.declared.BaseAnswer.TheVariants as base-answer

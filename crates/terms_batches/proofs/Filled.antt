@@ -10,7 +10,7 @@ use lib.ListN.{length, take, drop, length-drop, take-append-drop, drop_of_length
 use lib.Seq.{length-take-le}
 use Rattle.field_base.specs.Words.{all_below}
 use Rattle.field_base.proofs.Below.{below_take, below_drop}
-use Rattle.batch_words.specs.Words.{words, bytes_of}
+use Rattle.batch_words.specs.Words.{bytes_of}
 use Rattle.batch_words.proofs.Writing.{length-bytes_of, words_below_bytes_of}
 use Rattle.batch_commands.specs.Format.{END, COMMANDS, width, words_in}
 use Rattle.batch_commands.proofs.Tables.{all_words}

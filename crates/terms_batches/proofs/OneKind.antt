@@ -9,7 +9,7 @@ use lib.Dec.{eqb}
 use lib.ListN.{length}
 use lib.Seq.{take_at, drop_at, take_all}
 use borrow.Author.Tests.{eqb-true}
-use Rattle.batch_words.specs.Words.{words, bytes_of}
+use Rattle.batch_words.specs.Words.{bytes_of}
 use Rattle.batch_words.proofs.Writing.{bytes_of-words}
 use Rattle.batch_commands.specs.Format.{width, words_in, Command}
 use Rattle.batch_commands.proofs.Tables.{all_words, length-words_in}

@@ -1,5 +1,4 @@
 -- Nothing is written on a refusal; else each slice begins with what the batch brings for it.
-use borrow.Author.Rules.{rules}
 use mathlib.Core.Path.{◌≡◌, refl, sym, ap, ◌∙◌}
 use mathlib.Core.Bool.{true, cond}
 use mathlib.Core.List.{List}

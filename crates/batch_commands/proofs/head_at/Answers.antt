@@ -1,5 +1,4 @@
 -- The tests in order.
-use borrow.Author.Rules.{rules}
 use borrow.Author.Tests.{lt-ltb, le-ltb, lt-leb, le-leb}
 use native.Mathlib.Omega.{arith}
 use lib.ListN.{drop_of_length-le}

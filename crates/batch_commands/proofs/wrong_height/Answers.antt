@@ -1,5 +1,4 @@
 -- The tests in order; up to 22 nothing is shifted out.
-use borrow.Author.Rules.{rules}
 use borrow.Author.Tests.{le-leb, lt-leb}
 use mathlib.Core.Path.{ap}
 use lib.Dec.{ltb}

@@ -1,5 +1,4 @@
 -- The rows are counted in their form.
-use borrow.Author.Rules.{rules}
 use Rattle.batch_reader.proofs.counts_in.Goals as goal
 
 pub returns : goal.returns

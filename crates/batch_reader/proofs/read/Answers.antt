@@ -1,5 +1,4 @@
 -- Each step is what the definition takes there.
-use borrow.Author.Rules.{rules}
 use mathlib.Core.Path.{◌≡◌, sym, ap, ◌∙◌}
 use Prim.Native.Nat.{◌+◌, ◌≤◌}
 use native.Mathlib.Omega.{arith}
@@ -7,7 +6,7 @@ use lib.ListN.{length, drop}
 use Rattle.batch_commands.specs.Format.{width}
 use Rattle.batch_reader.specs.declared.Step.TheVariants.{Stop, Next}
 use Rattle.batch_reader.specs.Steps.{step_of}
-use Rattle.batch_reader.proofs.Reached.{Reached, nothing_read, stopped_there, known, whole, came_few, reached_next}
+use Rattle.batch_reader.proofs.Reached.{nothing_read, stopped_there, known, whole, came_few, reached_next}
 use Rattle.batch_reader.proofs.read.Goals as goal
 
 pub loop-answer-init : goal.loop-answer-init

@@ -1,5 +1,4 @@
 -- The command is counted, 01 announces the rows, 0B sets the height, and its place in the order and its key are remembered.
-use borrow.Author.Rules.{rules}
 use Rattle.batch_reader.proofs.seen_past.Goals as goal
 
 pub returns : goal.returns

@@ -1,5 +1,4 @@
 -- List by list.
-use borrow.Author.Rules.{rules}
 use mathlib.Core.Path.{sym, ap, ◌∙◌}
 use mathlib.Core.Bool.{not}
 use Rattle.batch_writer.specs.Contents.{Contents, contents_of}

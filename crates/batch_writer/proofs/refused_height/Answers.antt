@@ -1,5 +1,4 @@
 -- The tests in order.
-use borrow.Author.Rules.{rules}
 use borrow.Author.Tests.{eq-eqb, ne_eqb}
 use Rattle.batch_writer.proofs.refused_height.Goals as goal
 

@@ -1,10 +1,8 @@
 -- Nothing is written on a refusal; else the batch of these contents.
-use borrow.Author.Rules.{rules}
 use mathlib.Core.Path.{◌≡◌, sym, ◌∙◌}
 use mathlib.Core.Bool.{true, false}
 use Prim.Native.Nat.{ℕ}
 use lib.ListN.{length}
-use borrow.Author.Tests.{not-true, not-false}
 use Rattle.refusal.specs.declared.Answer.TheVariants.{Done}
 use Rattle.table_rows.specs.Rows.{rows}
 use Rattle.field_montgomery.specs.declared.Form.{Form}

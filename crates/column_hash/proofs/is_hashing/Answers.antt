@@ -1,5 +1,4 @@
 -- One test for the opcode of Hash, one for the two others.
-use borrow.Author.Rules.{rules}
 use borrow.Author.Tests.{eq-eqb, ne_eqb}
 use Rattle.column_hash.proofs.is_hashing.Goals as goal
 

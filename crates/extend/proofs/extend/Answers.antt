@@ -1,5 +1,4 @@
 -- The answer that is not strict is extension's.
-use borrow.Author.Rules.{rules}
 use Rattle.extend_answer.specs.Answer.{extend_answer}
 use Rattle.extend.specs.Extend.{extend_aux, extend_work}
 use Rattle.extend.proofs.extend.Goals as goal

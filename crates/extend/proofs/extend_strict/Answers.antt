@@ -1,5 +1,4 @@
 -- The strict answer.
-use borrow.Author.Rules.{rules}
 use Rattle.extend_answer.specs.Strict.{strict_answer}
 use Rattle.extend.specs.Extend.{strict_aux, strict_work}
 use Rattle.extend.proofs.extend_strict.Goals as goal

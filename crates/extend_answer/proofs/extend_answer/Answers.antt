@@ -1,5 +1,4 @@
 -- The tests in order.
-use borrow.Author.Rules.{rules}
 use borrow.Author.Tests.{eq-eqb, ne_eqb, lt-ltb, le-ltb, not-false}
 use mathlib.Core.Bool.{Bool, true, false, and-true, and-false, or-true}
 use mathlib.Core.List.{List, [], ◌∷◌, ◌++◌}
@@ -17,7 +16,7 @@ use Rattle.refusal.proofs.Answers.{is_long_lem}
 use Rattle.refusal.proofs.First.{done_exactly, refused_before}
 use Rattle.extend_answer.specs.Answer.{right_lengths, words_test}
 use Rattle.extend_answer.specs.Strict.{decoding_test, tests_in}
-use Rattle.extend_answer.proofs.Accepted.{Lengths, lengths}
+use Rattle.extend_answer.proofs.Accepted.{lengths}
 use Rattle.extend_answer.proofs.extend_answer.Goals as goal
 use Rattle.extend_answer.proofs.extend_answer.Goals.{then-rows-eq0-via-then-rows-eq0, then-rows-eq0-via-else-rows-eq0+then-rows-gt-MAX_LEN}
 

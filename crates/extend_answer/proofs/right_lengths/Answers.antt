@@ -1,5 +1,4 @@
 -- The three tests in order.
-use borrow.Author.Rules.{rules}
 use borrow.Author.Tests.{eq-eqb, ne_eqb}
 use Rattle.extend_answer.proofs.right_lengths.Goals as goal
 

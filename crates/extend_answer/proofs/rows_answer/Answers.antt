@@ -1,6 +1,4 @@
 -- Only strict extension decodes.
-use borrow.Author.Rules.{rules}
-use mathlib.Core.Path.{◌∙◌}
 use Rattle.extend_answer.proofs.rows_answer.Goals as goal
 
 pub strict_rows_answer-requires : goal.strict_rows_answer-requires

@@ -1,11 +1,11 @@
 -- The rows before decode and are below p; the words from them on, and the rows, are left to decide.
 use borrow.Author.Rules.{rules}
-use borrow.Author.Tests.{not-true, not-false, eqb-true}
+use borrow.Author.Tests.{eqb-true}
 use mathlib.Core.Path.{◌≡◌, refl, sym, ap, ◌∙◌}
 use mathlib.Core.Bool.{false}
-use Prim.Native.Nat.{◌-◌, ◌*◌, ◌%◌, ◌≤◌}
+use Prim.Native.Nat.{◌-◌, ◌*◌, ◌%◌}
 use native.Mathlib.Omega.{arith}
-use lib.ListN.{length, drop}
+use lib.ListN.{length}
 use Rattle.field_base.specs.Words.{all_below}
 use Rattle.field_base.proofs.Below.{holds_past}
 use Rattle.isa_decoding.specs.declared.Decoded.{Decoded}
@@ -13,7 +13,7 @@ use Rattle.isa_decoding.specs.declared.Decoded.TheVariants.{Read, Unknown, Outsi
 use Rattle.table_rows.specs.Rows.{row_at}
 use Rattle.table_rows.proofs.Rows.{row_part, rest_part}
 use Rattle.column_entries.specs.Row.{instruction_of}
-use Rattle.extend_answer.specs.Strict.{is_read, undecodable, undecodable_from}
+use Rattle.extend_answer.specs.Strict.{is_read}
 use Rattle.extend_answer.proofs.Undecodable.{from_start, row_fails, row_decodes, row_not_below, row_below, no_row_left}
 use Rattle.extend_answer.proofs.strict_rows_answer.Goals as goal
 
@@ -31,7 +31,7 @@ returns-in_default c =
     let row = c.loop-c.c in
     let said = sym (c.instruction_from_row.ensures ∙ ap instruction_of (row_part main row)) in
     let unread_row : is_read (instruction_of (row_at main row)) ≡ false = ap is_read said ∙ not_read c.instruction_from_row.result c.in_default.not-Read in
-    c.words_answer.ensures ∙ rw (ap all_below (rest_part main (row * 39)) ∙ sym c.loop-c.invariant.1, c.loop-c.invariant.2 ∙ row-fails main row _ c.loop-c-test.true unread_row)
+    c.words_answer.ensures ∙ rw (ap all_below (rest_part main (row * 39)) ∙ sym c.loop-c.invariant.1, c.loop-c.invariant.2 ∙ row_fails main row _ c.loop-c-test.true unread_row)
 
 pub returns-then-not-all_below : goal.returns-then-not-all_below
 returns-then-not-all_below c =

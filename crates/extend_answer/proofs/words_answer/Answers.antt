@@ -1,6 +1,4 @@
 -- The words decide.
-use borrow.Author.Rules.{rules}
-use borrow.Author.Tests.{not-true, not-false}
 use mathlib.Core.Path.{sym, ◌∙◌}
 use Rattle.extend_answer.proofs.words_answer.Goals as goal
 

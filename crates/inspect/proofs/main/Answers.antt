@@ -4,7 +4,6 @@ use Prim.Native.Nat.{◌≤◌}
 use native.Mathlib.Omega.{arith}
 use lib.ListN.{length}
 use lib.Seq.{length-sets, length-take-le}
-use borrow.Author.Rules.{rules}
 use Rattle.inspect.proofs.main.Goals as goal
 
 pub slice_bounds-batch-end : goal.slice_bounds-batch-end

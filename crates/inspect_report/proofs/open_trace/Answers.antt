@@ -3,7 +3,6 @@ use mathlib.Core.Path.{◌≡◌, ap, ◌∙◌}
 use native.Mathlib.Omega.{arith}
 use lib.ListN.{length}
 use Rattle.batch.specs.Open.{open_answer}
-use borrow.Author.Rules.{rules}
 use Rattle.inspect_report.proofs.open_trace.Goals as goal
 
 pub returns : goal.returns

@@ -1,6 +1,5 @@
 -- `differences` counts at most 18 differences for each word.
 use Prim.Native.Nat.{◌*◌, ◌≤◌, ◌-◌}
-use borrow.Author.Rules.{rules}
 use Rattle.list_instructions.proofs.differences.Given as goal
 
 abbrev pub invariant-loop-k : goal.invariant-loop-k

@@ -1,6 +1,5 @@
 -- `differences_of` counts at most one difference for each argument.
 use Prim.Native.Nat.{◌≤◌, ◌-◌}
-use borrow.Author.Rules.{rules}
 use Rattle.list_instructions.proofs.differences_of.Given as goal
 
 abbrev pub invariant-loop-k : goal.invariant-loop-k

@@ -1,7 +1,6 @@
 -- `line_of` is safe and ends: the line starts within the list, and what is left of the list falls.
 use Prim.Native.Nat.{◌≤◌, ◌-◌}
 use lib.ListN.{length}
-use borrow.Author.Rules.{rules}
 use Rattle.list_instructions.proofs.line_of.Given as goal
 
 abbrev pub invariant-loop-at : goal.invariant-loop-at

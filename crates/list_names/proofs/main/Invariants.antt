@@ -1,5 +1,4 @@
 -- Each loop counts up to its number.
-use borrow.Author.Rules.{rules}
 use Prim.Native.Nat.{◌≤◌, ◌-◌}
 use Rattle.list_names.proofs.main.Given as goal
 

@@ -1,8 +1,6 @@
 -- At most one difference a line.
 use borrow.Author.Rules.{rules}
-use mathlib.Core.Logic.{⊎_elim}
-use Prim.Native.Nat.{◌-◌, ◌/◌, ◌≤◌}
-use lib.ListN.{length}
+use Prim.Native.Nat.{◌-◌}
 use Rattle.list_values.proofs.differences.Goals as goal
 use Rattle.list_values.proofs.differences.Goals.{else-not-holds, then-not-holds}
 

@@ -1,6 +1,4 @@
 -- At most one difference a line.
-use borrow.Author.Rules.{rules}
-use mathlib.Core.Logic.{⊎_elim}
 use Prim.Native.Nat.{◌-◌, ◌/◌, ◌≤◌}
 use lib.ListN.{length}
 use Rattle.list_values.proofs.differences.Given as goal

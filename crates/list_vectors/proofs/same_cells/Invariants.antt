@@ -1,5 +1,4 @@
 -- One turn a cell.
-use borrow.Author.Rules.{rules}
 use Prim.Native.Nat.{◌-◌, ◌≤◌}
 use Rattle.list_vectors.proofs.same_cells.Given as goal
 

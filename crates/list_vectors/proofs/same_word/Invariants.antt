@@ -1,5 +1,4 @@
 -- Eight bytes at most are read.
-use borrow.Author.Rules.{rules}
 use Prim.Native.Nat.{◌-◌, ◌≤◌}
 use Rattle.list_vectors.proofs.same_word.Given as goal
 

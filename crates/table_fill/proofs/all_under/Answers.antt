@@ -1,9 +1,7 @@
 -- What is under the rows so far leaves the differences from i on to decide.
 use borrow.Author.Rules.{rules}
-use mathlib.Core.Path.{◌≡◌, refl, sym, ◌∙◌}
-use Prim.Native.Nat.{◌-◌, ◌≤◌}
-use lib.ListN.{length, drop}
-use Rattle.table_fill.specs.Fill.{all_under}
+use mathlib.Core.Path.{refl, sym, ◌∙◌}
+use Prim.Native.Nat.{◌-◌}
 use Rattle.table_fill.proofs.Differences.{fails_at, holds_at, holds_past}
 use Rattle.table_fill.proofs.all_under.Goals as goal
 

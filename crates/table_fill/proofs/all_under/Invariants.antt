@@ -1,10 +1,8 @@
 -- What is under the rows so far leaves the differences from i on to decide.
-use borrow.Author.Rules.{rules}
-use mathlib.Core.Path.{◌≡◌, refl, sym, ◌∙◌}
+use mathlib.Core.Path.{◌≡◌}
 use Prim.Native.Nat.{◌-◌, ◌≤◌}
 use lib.ListN.{length, drop}
 use Rattle.table_fill.specs.Fill.{all_under}
-use Rattle.table_fill.proofs.Differences.{fails_at, holds_at, holds_past}
 use Rattle.table_fill.proofs.all_under.Given as goal
 
 abbrev pub invariant-loop-i : goal.invariant-loop-i

@@ -1,12 +1,9 @@
 -- What is counted so far leaves the differences from i on to count.
 use borrow.Author.Rules.{rules}
-use mathlib.Core.Bool.{true}
-use mathlib.Core.Path.{◌≡◌, refl, sym, ◌∙◌}
-use Prim.Native.Nat.{◌-◌, ◌/◌, ◌≤◌}
+use mathlib.Core.Path.{refl, sym, ◌∙◌}
+use Prim.Native.Nat.{◌-◌, ◌/◌}
 use native.Mathlib.Omega.{arith}
-use lib.ListN.{length, drop}
-use Rattle.table_fill.specs.Fill.{all_under}
-use Rattle.table_fill.specs.Counted.{counted}
+use lib.ListN.{length}
 use Rattle.table_fill.proofs.Differences.{under_at, counted_at, counted_past}
 use Rattle.table_fill.proofs.count_differences.Goals as goal
 

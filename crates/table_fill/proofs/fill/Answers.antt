@@ -1,5 +1,4 @@
 -- Nothing is written on a refusal; else the trace is copied, then each list counted.
-use borrow.Author.Rules.{rules}
 use mathlib.Core.Path.{◌≡◌, sym, ◌∙◌}
 use native.Mathlib.Omega.{arith}
 use Rattle.refusal.specs.declared.Answer.TheVariants.{Done}

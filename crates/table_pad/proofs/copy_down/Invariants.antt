@@ -1,15 +1,10 @@
 -- The first padding row put, each other like the row above it.
-use borrow.Author.Rules.{rules}
-use mathlib.Core.Path.{◌≡◌, refl, sym, ◌∙◌}
-use Prim.Native.Nat.{◌+◌, ◌-◌, ◌/◌, ◌≤◌, ◌<◌}
-use native.Mathlib.Omega.{arith}
-use lib.ListN.{length, length-set}
-use lib.Seq.{set-set}
-use Rattle.table_pad.specs.Pad.{padding_row}
+use mathlib.Core.Path.{◌≡◌}
+use Prim.Native.Nat.{◌+◌, ◌-◌, ◌≤◌, ◌<◌}
+use lib.ListN.{length}
 use Rattle.table_rows.specs.Rows.{row_at}
-use Rattle.table_rows.specs.Writes.{with_row, with_rows}
-use Rattle.table_rows.proofs.Rows.{length-row, replace_past, replace_next, row_of_put}
-use Rattle.table_pad.proofs.Padded.{like, first_padding, rest_like_first}
+use Rattle.table_rows.specs.Writes.{with_rows}
+use Rattle.table_pad.proofs.Padded.{like}
 use Rattle.table_pad.proofs.copy_down.Given as goal
 
 abbrev pub invariant-loop-c : goal.invariant-loop-c

@@ -1,11 +1,11 @@
 -- The words below the clock copied one by one, from where nothing is written.
 use borrow.Author.Rules.{rules}
 use mathlib.Core.Path.{◌≡◌, refl}
-use Prim.Native.Nat.{◌+◌, ◌-◌, ◌*◌, ◌≤◌}
+use Prim.Native.Nat.{◌+◌, ◌-◌, ◌*◌}
 use native.Mathlib.Numerals.{add-one}
 use native.Mathlib.Omega.{arith}
-use lib.ListN.{length, drop}
-use lib.Seq.{paste, paste-zero}
+use lib.ListN.{drop}
+use lib.Seq.{paste-zero}
 use Rattle.table_pad.proofs.Padded.{paste_above, repeated}
 use Rattle.table_pad.proofs.repeat_row.Goals as goal
 

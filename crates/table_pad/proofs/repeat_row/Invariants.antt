@@ -1,12 +1,8 @@
 -- The words below the clock copied one by one, from where nothing is written.
-use borrow.Author.Rules.{rules}
-use mathlib.Core.Path.{◌≡◌, refl}
-use Prim.Native.Nat.{◌+◌, ◌-◌, ◌*◌, ◌≤◌}
-use native.Mathlib.Numerals.{add-one}
-use native.Mathlib.Omega.{arith}
+use mathlib.Core.Path.{◌≡◌}
+use Prim.Native.Nat.{◌-◌, ◌≤◌}
 use lib.ListN.{length, drop}
-use lib.Seq.{paste, paste-zero}
-use Rattle.table_pad.proofs.Padded.{paste_above, repeated}
+use lib.Seq.{paste}
 use Rattle.table_pad.proofs.repeat_row.Given as goal
 
 abbrev pub invariant-loop-i : goal.invariant-loop-i

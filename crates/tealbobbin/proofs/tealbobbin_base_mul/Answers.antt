@@ -1,5 +1,4 @@
 -- What `put_base` does with the answer.
-use borrow.Author.Rules.{rules}
 use mathlib.Core.Path.{ap, ◌∙◌}
 use Rattle.tealbobbin_answers.specs.Field.{base_number_into, base_into}
 use Rattle.tealbobbin.proofs.tealbobbin_base_mul.Goals as goal

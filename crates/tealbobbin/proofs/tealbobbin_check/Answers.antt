@@ -1,5 +1,4 @@
 -- What the check answers, where `verdict` has one word.
-use borrow.Author.Rules.{rules}
 use borrow.Author.Tests.{eq-eqb, ne_eqb}
 use mathlib.Core.Path.{ap, ◌∙◌}
 use Rattle.tealbobbin_answers.specs.Check.{check_number, check_written}

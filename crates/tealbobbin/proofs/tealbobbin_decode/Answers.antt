@@ -1,5 +1,4 @@
 -- What `put_decoded` does with the answer.
-use borrow.Author.Rules.{rules}
 use mathlib.Core.Path.{ap, ◌∙◌}
 use Rattle.tealbobbin_answers.specs.Decode.{decode_number_into, decode_into}
 use Rattle.tealbobbin.proofs.tealbobbin_decode.Goals as goal

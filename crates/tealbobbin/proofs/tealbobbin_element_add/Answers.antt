@@ -1,5 +1,4 @@
 -- The tests in order, and what `put_element` does with the answer.
-use borrow.Author.Rules.{rules}
 use borrow.Author.Tests.{eq-eqb, ne_eqb}
 use mathlib.Core.Path.{ap, ap₂, ◌∙◌}
 use Rattle.field.specs.Answers.{element_add}

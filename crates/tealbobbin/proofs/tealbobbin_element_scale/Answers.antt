@@ -1,5 +1,4 @@
 -- The test, and what `put_element` does with the answer.
-use borrow.Author.Rules.{rules}
 use borrow.Author.Tests.{eq-eqb, ne_eqb}
 use mathlib.Core.Path.{ap, ◌∙◌}
 use Rattle.field.specs.Answers.{element_scale}

@@ -7,7 +7,6 @@ use borrow.Author.Tests.{eq-eqb, ne_eqb}
 use Rattle.batch.specs.Open.{open_answer, open_number, open_slice}
 use Rattle.batch_reader.specs.declared.OpenAnswer.{OpenAnswer}
 use Rattle.tealbobbin_answers.specs.Open.{Slices, slices, open_into, slices_by, slices_after}
-use borrow.Author.Rules.{rules}
 use native.Mathlib.Omega.{arith}
 use Rattle.tealbobbin.proofs.tealbobbin_open.Goals as goal
 

@@ -1,5 +1,4 @@
 -- What the scan answers and leaves.
-use borrow.Author.Rules.{rules}
 use mathlib.Core.Path.{ap, ◌∙◌}
 use Rattle.refusal.specs.Number.{answer_number_of}
 use Rattle.tealbobbin.proofs.tealbobbin_scan_products.Goals as goal

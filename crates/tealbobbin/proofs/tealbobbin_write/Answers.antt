@@ -1,5 +1,4 @@
 -- What `write` answers and leaves.
-use borrow.Author.Rules.{rules}
 use mathlib.Core.Path.{sym, ap, ◌∙◌}
 use Rattle.refusal.specs.Number.{answer_number_of}
 use Rattle.tealbobbin.proofs.tealbobbin_write.Goals as goal

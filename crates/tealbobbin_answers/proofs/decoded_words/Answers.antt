@@ -1,5 +1,4 @@
 -- Two words for each case.
-use borrow.Author.Rules.{rules}
 use mathlib.Core.List.{[], ◌∷◌}
 use mathlib.Core.Path.{ap, ap₂}
 use Prim.Native.Nat.{ℕ}

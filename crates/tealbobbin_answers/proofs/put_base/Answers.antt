@@ -1,5 +1,4 @@
 -- The answer's case decides what is written.
-use borrow.Author.Rules.{rules}
 use borrow.Author.Tests.{eq-eqb, ne_eqb}
 use Rattle.tealbobbin_answers.proofs.Whole.{whole_word}
 use Rattle.tealbobbin_answers.proofs.put_base.Goals as goal

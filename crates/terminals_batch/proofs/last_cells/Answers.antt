@@ -9,7 +9,6 @@ use Rattle.batch.specs.Open.{open_slice}
 use Rattle.batch.specs.Lent.{zeros}
 use Rattle.batch.proofs.Opened.{within_opened}
 use Rattle.terminals_cells.specs.Terminals.{opened_answer, opened_cells, answer_after, cells_after, terminals_answer, terminals_cells}
-use borrow.Author.Rules.{rules}
 use Rattle.terminals_batch.proofs.last_cells.Goals as goal
 
 module _ {A : Type 0} (f : List ℕ → List ℕ → List ℕ → List ℕ → List ℕ → List ℕ → List ℕ → List ℕ → A) where

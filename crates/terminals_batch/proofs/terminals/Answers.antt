@@ -10,7 +10,6 @@ use Rattle.refusal.specs.declared.Answer.TheVariants.{Done}
 use Rattle.terminals_cells.specs.Terminals.{terminals_answer, terminals_cells}
 use Rattle.terminals_cells.proofs.Length.{cells_long}
 use Rattle.terminals_batch.specs.Into.{terminals_into, cells_into}
-use borrow.Author.Rules.{rules}
 use Rattle.terminals_batch.proofs.terminals.Goals as goal
 
 pub returns-then-cells-ne-AUX_WORDS : goal.returns-then-cells-ne-AUX_WORDS

@@ -7,7 +7,6 @@ use Rattle.refusal.specs.Number.{on_done}
 use Rattle.terminals_cells.specs.Terminals.{terminals_cells}
 use Rattle.terminals_text.specs.Text.{lines, text_of}
 use Rattle.terminals_report.specs.Text.{terminals_text}
-use borrow.Author.Rules.{rules}
 use Rattle.terminals_report.proofs.report.Goals as goal
 
 pub returns-in-Refused : goal.returns-in-Refused

@@ -1,5 +1,4 @@
 -- 01 announces them, and no other command changes them.
-use borrow.Author.Rules.{rules}
 use borrow.Author.Tests.{ne_eqb}
 use Rattle.batch_commands.proofs.unchecked.announced.Goals as goal
 

@@ -1,10 +1,8 @@
 -- The tests in order.
-use borrow.Author.Rules.{rules}
 use mathlib.Core.Path.{◌≡◌, sym, ap, ◌∙◌}
 use Prim.Native.Nat.{◌+◌, ◌-◌}
 use native.Mathlib.Omega.{arith}
 use lib.ListN.{length, drop, length-drop}
-use borrow.Author.Tests.{not-true, not-false}
 use Rattle.field_base.specs.Words.{all_below}
 use Rattle.batch_commands.specs.Format.{width, words_in}
 use Rattle.batch_commands.specs.Fault.{out_of_place, judged}

@@ -1,5 +1,4 @@
 -- An arm for each form; another command is no row.
-use borrow.Author.Rules.{rules}
 use borrow.Author.Tests.{ne_eqb}
 use Rattle.batch_commands.proofs.unchecked.mixed.Goals as goal
 

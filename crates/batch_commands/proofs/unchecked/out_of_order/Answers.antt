@@ -1,5 +1,4 @@
 -- The tests in order.
-use borrow.Author.Rules.{rules}
 use borrow.Author.Tests.{lt-ltb, le-ltb, eq-eqb, ne_eqb}
 use Rattle.batch_commands.proofs.unchecked.out_of_order.Goals as goal
 

@@ -1,5 +1,4 @@
 -- By the form that came.
-use borrow.Author.Rules.{rules}
 use borrow.Author.Tests.{eq-eqb, ne_eqb}
 use Rattle.batch_commands.proofs.unchecked.rows_in.Goals as goal
 

@@ -1,11 +1,7 @@
 -- The commands of the kind so far have brought what the slice begins with; the first of another kind ends the section.
-use borrow.Author.Rules.{rules}
-use mathlib.Core.Path.{◌≡◌}
-use Prim.Native.Nat.{◌+◌, ◌-◌, ◌/◌, ◌≤◌}
-use native.Mathlib.Omega.{arith}
+use Prim.Native.Nat.{◌-◌}
 use lib.ListN.{length}
-use Rattle.batch_commands.specs.Format.{width}
-use Rattle.batch_reader.proofs.Sections.{Section, begins, fits, room, goes_on, ends, not_at_end}
+use Rattle.batch_reader.proofs.Sections.{Section}
 use Rattle.batch_reader.proofs.unchecked.put_section.Given as goal
 
 abbrev pub invariant-loop-place : goal.invariant-loop-place

@@ -1,11 +1,9 @@
 -- The word has passed i words, which have moved down and were smaller.
 use borrow.Author.Rules.{rules}
-use mathlib.Core.Path.{◌≡◌, refl, sym, ◌∙◌}
-use mathlib.Core.List.{◌++◌}
-use Prim.Native.Nat.{◌+◌, ◌-◌, ◌<◌}
+use mathlib.Core.Path.{refl, sym, ◌∙◌}
+use Prim.Native.Nat.{◌+◌, ◌-◌}
 use native.Mathlib.Omega.{arith}
-use lib.ListN.{length, take, drop, length-set}
-use Rattle.batch_sorted.specs.Sorted.{inserted}
+use lib.ListN.{length-set}
 use Rattle.batch_sorted.proofs.Inserting.{moves, stays, ends}
 use Rattle.batch_sorted.proofs.unchecked.insert.Goals as goal
 use Rattle.batch_sorted.proofs.unchecked.insert.Goals.{else-loop-i-test, then-loop-i-test+then-word-next}

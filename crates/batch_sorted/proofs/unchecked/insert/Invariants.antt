@@ -1,13 +1,9 @@
 -- The word has passed i words, which have moved down and were smaller.
-use borrow.Author.Rules.{rules}
-use mathlib.Core.Path.{◌≡◌, refl, sym, ◌∙◌}
+use mathlib.Core.Path.{◌≡◌}
 use mathlib.Core.List.{◌++◌}
-use mathlib.Core.Logic.{⊎_elim}
 use Prim.Native.Nat.{◌+◌, ◌-◌, ◌<◌}
-use native.Mathlib.Omega.{arith}
-use lib.ListN.{length, take, drop, length-set}
+use lib.ListN.{length, take, drop}
 use Rattle.batch_sorted.specs.Sorted.{inserted}
-use Rattle.batch_sorted.proofs.Inserting.{moves, stays, ends}
 use Rattle.batch_sorted.proofs.unchecked.insert.Given as goal
 
 abbrev pub invariant-loop-i : goal.invariant-loop-i

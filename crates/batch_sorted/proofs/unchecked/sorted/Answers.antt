@@ -1,13 +1,12 @@
 -- The words from i on stand sorted at their places.
 use borrow.Author.Rules.{rules}
 use mathlib.Core.Path.{◌≡◌, refl, ◌∙◌}
-use Prim.Native.Nat.{◌-◌, ◌≤◌}
+use Prim.Native.Nat.{◌-◌}
 use native.Mathlib.Nat.{sub-zero}
 use native.Mathlib.Omega.{arith}
-use lib.ListN.{length, take, drop, length-take, length-drop}
+use lib.ListN.{length, length-take, length-drop}
 use borrow.Rule.Slice.PartMut.{same_len_mid}
 use Rattle.batch_sorted.proofs.Sorting.{none_yet, one_more}
-use Rattle.batch_sorted.specs.Sorted.{sorted}
 use Rattle.batch_sorted.proofs.unchecked.sorted.Goals as goal
 
 pub loop-i-init : goal.loop-i-init

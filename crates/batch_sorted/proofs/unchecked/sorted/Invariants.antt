@@ -1,12 +1,7 @@
 -- The words from i on stand sorted at their places.
-use borrow.Author.Rules.{rules}
-use mathlib.Core.Path.{◌≡◌, refl, ◌∙◌}
+use mathlib.Core.Path.{◌≡◌}
 use Prim.Native.Nat.{◌-◌, ◌≤◌}
-use native.Mathlib.Nat.{sub-zero}
-use native.Mathlib.Omega.{arith}
-use lib.ListN.{length, take, drop, length-take, length-drop}
-use borrow.Rule.Slice.PartMut.{same_len_mid}
-use Rattle.batch_sorted.proofs.Sorting.{none_yet, one_more}
+use lib.ListN.{length, take, drop}
 use Rattle.batch_sorted.specs.Sorted.{sorted}
 use Rattle.batch_sorted.proofs.unchecked.sorted.Given as goal
 

@@ -1,5 +1,4 @@
 -- Kind by kind: where each put starts, and what the batch begins with after it.
-use borrow.Author.Rules.{rules}
 use mathlib.Core.Path.{refl, sym, ap, ◌∙◌}
 use Prim.Native.Nat.{suc, ◌*◌, ◌/◌}
 use lib.Dec.{lit<}

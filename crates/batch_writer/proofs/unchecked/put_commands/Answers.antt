@@ -1,12 +1,12 @@
 -- Some commands are put, and `left` are to come.
 use borrow.Author.Rules.{rules}
 use Prim.Native.Nat.{◌+◌, ◌-◌, ◌*◌, ◌/◌, ◌≤◌}
-use mathlib.Core.Path.{◌≡◌, sym, ap}
+use mathlib.Core.Path.{sym, ap}
 use native.Mathlib.Omega.{arith}
 use lib.ListN.{length, length-take, length-drop}
 use Rattle.field_montgomery.specs.Form.{in_form}
 use Rattle.field_montgomery.proofs.Many.{length-in_form, in_form_part}
-use Rattle.batch_writer.proofs.Putting.{Putting, none_put, one_put, fits, all_put}
+use Rattle.batch_writer.proofs.Putting.{none_put, one_put, fits, all_put}
 use Rattle.batch_writer.proofs.unchecked.put_commands.Goals as goal
 
 pub loop-left-init : goal.loop-left-init

@@ -1,12 +1,9 @@
 -- Some commands are put, and `left` are to come.
-use borrow.Author.Rules.{rules}
-use Prim.Native.Nat.{◌+◌, ◌-◌, ◌*◌, ◌/◌, ◌≤◌}
-use mathlib.Core.Path.{◌≡◌, sym, ap}
-use native.Mathlib.Omega.{arith}
-use lib.ListN.{length, length-take, length-drop}
+use Prim.Native.Nat.{◌-◌}
+use mathlib.Core.Path.{◌≡◌}
+use lib.ListN.{length}
 use Rattle.field_montgomery.specs.Form.{in_form}
-use Rattle.field_montgomery.proofs.Many.{length-in_form, in_form_part}
-use Rattle.batch_writer.proofs.Putting.{Putting, none_put, one_put, fits, all_put}
+use Rattle.batch_writer.proofs.Putting.{Putting}
 use Rattle.batch_writer.proofs.unchecked.put_commands.Given as goal
 
 abbrev pub invariant-loop-left : goal.invariant-loop-left

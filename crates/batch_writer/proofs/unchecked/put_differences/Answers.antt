@@ -1,12 +1,10 @@
 -- What `sorted` gives goes into the commands.
-use borrow.Author.Rules.{rules}
 use mathlib.Core.Path.{sym, ap, ◌∙◌}
 use Prim.Native.Nat.{◌+◌, ◌*◌, ◌/◌}
 use native.Mathlib.Omega.{arith}
 use lib.ListN.{length}
 use Rattle.batch_words.specs.Pasted.{pasted}
 use Rattle.batch_commands.specs.Format.{laid_out}
-use Rattle.batch_sorted.specs.Sorted.{sorted}
 use Rattle.batch_sorted.proofs.Lengths.{length-sorted}
 use Rattle.batch_writer.specs.Layout.{commands_with}
 use Rattle.batch_writer.proofs.unchecked.put_differences.Goals as goal

@@ -1,5 +1,4 @@
 -- By the contracts of what it calls.
-use borrow.Author.Rules.{rules}
 use Rattle.column_compression.proofs.unchecked.instruction_from_row.Goals as goal
 
 pub returns : goal.returns

@@ -1,5 +1,4 @@
 -- The test is the definition's.
-use borrow.Author.Rules.{rules}
 use Rattle.column_compression.proofs.unchecked.is_padding.Goals as goal
 
 pub returns : goal.returns

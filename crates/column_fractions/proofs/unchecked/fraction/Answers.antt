@@ -1,5 +1,4 @@
 -- By the unit laws.
-use borrow.Author.Rules.{rules}
 use Rattle.column_fractions.proofs.Single.{single}
 use Rattle.column_fractions.proofs.unchecked.fraction.Goals as goal
 

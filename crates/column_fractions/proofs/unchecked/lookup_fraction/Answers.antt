@@ -1,5 +1,4 @@
 -- The entry of the compressed words.
-use borrow.Author.Rules.{rules}
 use Rattle.column_fractions.proofs.unchecked.lookup_fraction.Goals as goal
 
 pub returns : goal.returns

@@ -1,5 +1,4 @@
 -- By the unit laws.
-use borrow.Author.Rules.{rules}
 use Rattle.field.proofs.Laws.{difference_canonical}
 use Rattle.column_fractions.proofs.Single.{double}
 use Rattle.column_fractions.proofs.unchecked.two_fractions.Goals as goal

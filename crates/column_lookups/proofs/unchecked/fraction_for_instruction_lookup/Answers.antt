@@ -1,5 +1,4 @@
 -- No entry where IsPadding is 1, else one under numerator 1.
-use borrow.Author.Rules.{rules}
 use mathlib.Core.Path.{sym, ◌∙◌}
 use Rattle.column_entries.specs.Entries.{instruction_entries}
 use Rattle.column_entries.specs.Contribution.{sum_of_fractions}

@@ -1,14 +1,10 @@
 -- The words from i on are in the sums.
-use borrow.Author.Rules.{rules}
-use mathlib.Core.Path.{◌≡◌, ap, ◌∙◌}
+use mathlib.Core.Path.{◌≡◌}
 use Prim.Native.Nat.{◌+◌, ◌-◌, ◌≤◌}
-use native.Mathlib.Omega.{arith}
 use lib.ListN.{length, drop}
 use Rattle.field.specs.Element.{sum}
 use Rattle.field.specs.Weighed.{weighed_of, Few}
-use Rattle.field.proofs.Totals.{more_few, few_in}
 use Rattle.column_entries.specs.Row.{weigh}
-use Rattle.column_states.proofs.Weighing.{weigh_none_left, weigh_one_more}
 use Rattle.column_states.proofs.unchecked.weigh.Given as goal
 
 abbrev pub invariant-loop-i : goal.invariant-loop-i

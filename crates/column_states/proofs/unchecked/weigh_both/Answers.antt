@@ -1,5 +1,4 @@
 -- The second run takes the weights behind those of the first.
-use borrow.Author.Rules.{rules}
 use mathlib.Core.Path.{ap, ◌∙◌}
 use lib.Seq.{drop-drop}
 use Rattle.field.specs.Element.{sum}

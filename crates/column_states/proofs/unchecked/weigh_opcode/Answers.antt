@@ -1,5 +1,4 @@
 -- One word more, and so at most one carry more.
-use borrow.Author.Rules.{rules}
 use mathlib.Core.Path.{◌∙◌}
 use Rattle.field.proofs.Totals.{more_few}
 use Rattle.column_states.proofs.unchecked.weigh_opcode.Goals as goal

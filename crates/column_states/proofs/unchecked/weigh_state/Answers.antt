@@ -1,5 +1,4 @@
 -- No words stand behind these.
-use borrow.Author.Rules.{rules}
 use mathlib.Core.Path.{◌∙◌}
 use Rattle.field.proofs.Laws.{sum_zero}
 use Rattle.column_entries.proofs.Weigh.{weigh_canonical}

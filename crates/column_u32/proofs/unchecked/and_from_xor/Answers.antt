@@ -1,5 +1,4 @@
 -- The constant is 1/2, computed.
-use borrow.Author.Rules.{rules}
 use mathlib.Core.Path.{◌≡◌, refl}
 use Rattle.algebra.specs.Modulus.{inverse, power}
 use Rattle.column_u32.proofs.unchecked.and_from_xor.Goals as goal

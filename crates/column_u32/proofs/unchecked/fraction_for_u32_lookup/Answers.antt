@@ -1,5 +1,4 @@
 -- Each arm of the match is an arm of the definition.
-use borrow.Author.Rules.{rules}
 use mathlib.Core.List.{[]}
 use lib.ListN.{get_or}
 use Rattle.field_base.proofs.Below.{word_below}

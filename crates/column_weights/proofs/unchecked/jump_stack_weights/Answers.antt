@@ -1,5 +1,4 @@
 -- Each weight is read at its place.
-use borrow.Author.Rules.{rules}
 use Rattle.column_weights.proofs.unchecked.jump_stack_weights.Goals as goal
 
 pub returns : goal.returns

@@ -1,7 +1,6 @@
 -- Each weight is read at its place.
 use mathlib.Core.List.{[], ◌∷◌}
 use lib.Dec.{lit<}
-use borrow.Author.Rules.{rules}
 use Rattle.column_weights.proofs.unchecked.sponge_weights.Goals as goal
 
 pub challenge-requires-11 : goal.challenge-requires-11

@@ -1,6 +1,5 @@
 -- Each column's words at its place.
 use lib.Dec.{lit<}
-use borrow.Author.Rules.{rules}
 use Rattle.extend_cells.proofs.unchecked.cells_in.Goals as goal
 
 pub cell_at-requires-11 : goal.cell_at-requires-11

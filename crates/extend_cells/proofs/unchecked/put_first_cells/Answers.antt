@@ -1,5 +1,4 @@
 -- The columns one after the other.
-use borrow.Author.Rules.{rules}
 use Rattle.column_entries.specs.AuxRow.{placed}
 use Rattle.extend_cells.proofs.unchecked.put_first_cells.Goals as goal
 

@@ -5,7 +5,6 @@ use native.Mathlib.Omega.{arith}
 use lib.ListN.{length}
 use lib.Seq.{sets}
 use Rattle.inspect_text.specs.Text.{limits}
-use borrow.Author.Rules.{rules}
 use Rattle.inspect_text.proofs.unchecked.put_limits.Goals as goal
 
 pub returns-in-StackElement : goal.returns-in-StackElement

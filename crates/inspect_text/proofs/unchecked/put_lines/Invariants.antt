@@ -1,15 +1,11 @@
 -- The lines of the rows before, at most 114 bytes each.
-use borrow.Author.Rules.{rules}
-use mathlib.Core.Path.{◌≡◌, refl, sym, ap, ◌∙◌}
-use mathlib.Core.List.{List, ◌++◌}
-use Prim.Native.Nat.{ℕ, ◌+◌, ◌-◌, ◌*◌, ◌/◌, ◌≤◌}
-use native.Mathlib.Nat.{zero-add}
-use native.Mathlib.Omega.{arith}
-use lib.ListN.{length, take, drop, length-take, length-drop}
+use mathlib.Core.Path.{◌≡◌}
+use mathlib.Core.List.{List}
+use Prim.Native.Nat.{ℕ, ◌-◌, ◌*◌, ◌≤◌}
+use lib.ListN.{length}
 use Rattle.table_rows.specs.Rows.{row_at, rows_from}
-use Rattle.table_rows.proofs.Rows.{row_part, one_more_row}
-use Rattle.text.proofs.Stores.{Put, put, then, put_as}
-use Rattle.inspect_text.specs.Text.{row_text, lines}
+use Rattle.text.proofs.Stores.{Put}
+use Rattle.inspect_text.specs.Text.{row_text}
 use Rattle.inspect_text.proofs.unchecked.put_lines.Given as goal
 
 abbrev pub text_of : List ℕ → ℕ → List ℕ

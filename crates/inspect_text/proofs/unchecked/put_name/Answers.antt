@@ -7,7 +7,6 @@ use lib.ListN.{length, length-take}
 use lib.Seq.{sets, length-take-le}
 use Rattle.air_names.specs.declared.Name.{Name}
 use Rattle.air_names.specs.Name.{Named}
-use borrow.Author.Rules.{rules}
 use Rattle.inspect_text.proofs.unchecked.put_name.Goals as goal
 
 within : {name : Name} {text : List ℕ} → Named name text → name.length ≤ length name.bytes

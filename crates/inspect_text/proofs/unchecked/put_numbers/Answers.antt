@@ -6,7 +6,6 @@ use Rattle.text.specs.Text.{decimal, word}
 use Rattle.text.proofs.Digits.{at_most_two}
 use Rattle.text.proofs.Stores.{put, then}
 use Rattle.inspect_text.specs.Text.{numbers_text}
-use borrow.Author.Rules.{rules}
 use Rattle.inspect_text.proofs.unchecked.put_numbers.Goals as goal
 
 pub returns : goal.returns

@@ -6,7 +6,6 @@ use Rattle.text.specs.Text.{decimal}
 use Rattle.text.proofs.Digits.{at_most_twenty}
 use Rattle.text.proofs.Stores.{put, then}
 use Rattle.inspect_text.specs.Text.{limits, outside_text}
-use borrow.Author.Rules.{rules}
 use Rattle.inspect_text.proofs.unchecked.put_outside.Goals as goal
 
 pub put_decimal-at1-requires : goal.put_decimal-at1-requires

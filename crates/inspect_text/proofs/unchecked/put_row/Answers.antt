@@ -4,7 +4,6 @@ use Prim.Native.Nat.{◌+◌}
 use lib.ListN.{length}
 use lib.Seq.{sets}
 use Rattle.inspect_text.specs.Text.{line}
-use borrow.Author.Rules.{rules}
 use Rattle.inspect_text.proofs.unchecked.put_row.Goals as goal
 
 pub returns : goal.returns

@@ -7,7 +7,6 @@ use lib.ListN.{length}
 use lib.Seq.{sets}
 use Rattle.text.specs.Ascii.{ascii}
 use Rattle.inspect_text.specs.Text.{lines, or_all_decode, trace_text}
-use borrow.Author.Rules.{rules}
 use Rattle.inspect_text.proofs.unchecked.put_trace.Goals as goal
 
 none : (l : List ℕ) → length l ≡ 0 → l ≡ []

@@ -6,7 +6,6 @@ use native.Mathlib.Nat.{one-mul, pow-le-pow_right}
 use native.Mathlib.Omega.{arith}
 use lib.Dec.{lit<}
 use lib.Pow.{shl_exact}
-use borrow.Author.Rules.{rules}
 use borrow.Author.Tests.{eq-eqb, ne_eqb}
 use Rattle.table_pad.specs.Height.{height}
 use Rattle.table_pad.proofs.unchecked.padded_height.Goals as goal

@@ -2,7 +2,6 @@
 use native.Mathlib.Omega.{arith}
 use lib.ListN.{length-set}
 use Rattle.tealbobbin_answers.proofs.Whole.{whole}
-use borrow.Author.Rules.{rules}
 use Rattle.tealbobbin_answers.proofs.unchecked.put_counts.Goals as goal
 
 pub bounds-counts-4 : goal.bounds-counts-4

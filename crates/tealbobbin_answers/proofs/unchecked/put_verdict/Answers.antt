@@ -3,7 +3,6 @@ use mathlib.Core.Path.{ap, ◌∙◌}
 use mathlib.Core.List.{List, [], ◌∷◌}
 use Prim.Native.Nat.{ℕ}
 use lib.ListN.{get_or}
-use borrow.Author.Rules.{rules}
 use Rattle.tealbobbin_answers.proofs.Whole.{whole_word}
 use Rattle.tealbobbin_answers.proofs.Verdicts.{first_word}
 use Rattle.tealbobbin_answers.proofs.unchecked.put_verdict.Goals as goal

@@ -1,5 +1,4 @@
 -- Three words for each case.
-use borrow.Author.Rules.{rules}
 use Rattle.tealbobbin_answers.proofs.unchecked.verdict_words.Goals as goal
 
 pub returns-in-No : goal.returns-in-No

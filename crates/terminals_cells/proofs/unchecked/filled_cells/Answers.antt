@@ -12,7 +12,6 @@ use Rattle.table_fill.specs.Fill.{fill_answer, fill_table}
 use Rattle.terminals_cells.specs.Terminals.{after, padded_answer, padded_cells, filled_answer, filled_cells}
 use Rattle.terminals_cells.specs.Kept.{Kept, longer}
 use Rattle.terminals_cells.proofs.Filled as law
-use borrow.Author.Rules.{rules}
 use Rattle.terminals_cells.proofs.unchecked.filled_cells.Goals as goal
 
 pub padded_cells-requires : goal.padded_cells-requires

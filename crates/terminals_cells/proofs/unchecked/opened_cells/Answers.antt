@@ -14,7 +14,6 @@ use Rattle.batch_reader.specs.declared.Counts.{Counts}
 use Rattle.challenges.specs.Derived.{challenges_answer, challenges_record}
 use Rattle.batch.specs.Lent.{zeros}
 use Rattle.terminals_cells.specs.Terminals.{table_answer, table_cells, opened_answer, opened_cells}
-use borrow.Author.Rules.{rules}
 use Rattle.terminals_cells.proofs.unchecked.opened_cells.Goals as goal
 
 module _ (counts : Counts) (trace op_stack ram jump_stack sampled digest input output : List ℕ) where

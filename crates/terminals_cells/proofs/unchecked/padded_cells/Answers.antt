@@ -13,7 +13,6 @@ use Rattle.terminals_walk.specs.Grown.{grown, Growing}
 use Rattle.terminals_cells.specs.Terminals.{after, padded_answer, padded_cells}
 use Rattle.terminals_cells.specs.Kept.{longer}
 use Rattle.terminals_cells.proofs.Padded as law
-use borrow.Author.Rules.{rules}
 use Rattle.terminals_cells.proofs.unchecked.padded_cells.Goals as goal
 
 pub rows_below-more-requires : goal.rows_below-more-requires

@@ -12,7 +12,6 @@ use Rattle.terminals_extended.proofs.Zeros.{take-zeros, length-zeros}
 use Rattle.terminals_cells.specs.Terminals.{filled_answer, filled_cells, table_answer, table_cells}
 use Rattle.terminals_cells.specs.Kept.{Kept, longer}
 use Rattle.terminals_cells.proofs.Longer.{longer_zeros}
-use borrow.Author.Rules.{rules}
 use Rattle.terminals_cells.proofs.unchecked.table_cells.Goals as goal
 
 pub kept_rows-end-requires : goal.kept_rows-end-requires

@@ -1,11 +1,11 @@
 -- The first i words are those of `from`.
 use borrow.Author.Rules.{rules}
 use mathlib.Core.Path.{◌≡◌, refl, sym, ap, ◌∙◌}
-use Prim.Native.Nat.{◌-◌, ◌≤◌}
+use Prim.Native.Nat.{◌-◌}
 use mathlib.Core.List.{◌++◌, [], ◌∷◌}
 use native.Mathlib.Numerals.{add-one}
 use native.Mathlib.Omega.{arith}
-use lib.ListN.{length, take, get_or, set}
+use lib.ListN.{take, get_or, set}
 use lib.Seq.{take-suc, take-suc-set, take_all}
 use Rattle.terminals_extended.proofs.unchecked.copy_row.Goals as goal
 

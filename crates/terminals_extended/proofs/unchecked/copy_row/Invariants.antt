@@ -1,12 +1,8 @@
 -- The first i words are those of `from`.
-use borrow.Author.Rules.{rules}
-use mathlib.Core.Path.{◌≡◌, refl, sym, ap, ◌∙◌}
+use mathlib.Core.Path.{◌≡◌}
 use Prim.Native.Nat.{◌-◌, ◌≤◌}
-use mathlib.Core.List.{◌++◌, [], ◌∷◌}
-use native.Mathlib.Numerals.{add-one}
-use native.Mathlib.Omega.{arith}
-use lib.ListN.{length, take, get_or, set}
-use lib.Seq.{take-suc, take-suc-set, take_all}
+use mathlib.Core.List.{[]}
+use lib.ListN.{length, take}
 use Rattle.terminals_extended.proofs.unchecked.copy_row.Given as goal
 
 abbrev pub invariant-loop-i : goal.invariant-loop-i

@@ -13,7 +13,6 @@ use Rattle.extend.specs.Extend.{extend_aux}
 use Rattle.batch.specs.Lent.{zeros}
 use Rattle.terminals_extended.specs.Extended.{last_row, extended_answer, extended_cells}
 use Rattle.terminals_extended.proofs.Zeros.{take-zeros, length-zeros}
-use borrow.Author.Rules.{rules}
 use Rattle.terminals_extended.proofs.unchecked.extended_cells.Goals as goal
 
 both : {A : Type 0} (f : List ℕ → List ℕ → A) {a a' b b' : List ℕ} → a ≡ a' → b ≡ b' → f a b ≡ f a' b'

@@ -3,7 +3,6 @@ use mathlib.Core.Path.{◌≡◌, refl, sym, ap, ◌∙◌}
 use mathlib.Core.List.{List}
 use Prim.Native.Nat.{ℕ, ◌-◌}
 use lib.ListN.{length, take, drop}
-use borrow.Author.Rules.{rules}
 use Rattle.table_rows.proofs.Rows.{rest_part}
 use Rattle.terminals_extended.specs.Extended.{last_row}
 use Rattle.terminals_extended.proofs.unchecked.extended_into.Goals as goal

@@ -4,7 +4,6 @@ use native.Mathlib.Omega.{arith}
 use lib.ListN.{get_or}
 use Rattle.text.specs.Text.{word}
 use Rattle.text.proofs.Stores.{Put, then}
-use borrow.Author.Rules.{rules}
 use Rattle.terminals_text.proofs.unchecked.put_line.Goals as goal
 
 pub returns : goal.returns

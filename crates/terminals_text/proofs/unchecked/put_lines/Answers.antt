@@ -1,14 +1,13 @@
 -- The lines of the columns before, at most 84 bytes each.
 use borrow.Author.Rules.{rules}
 use mathlib.Core.Path.{◌≡◌, refl, sym, ap, ◌∙◌}
-use Prim.Native.Nat.{◌-◌, ◌*◌, ◌≤◌}
+use Prim.Native.Nat.{◌-◌}
 use native.Mathlib.Nat.{zero-add}
 use native.Mathlib.Omega.{arith}
-use lib.ListN.{length}
 use Rattle.table_rows.specs.Rows.{rows_from}
 use Rattle.table_rows.proofs.Rows.{one_more_row}
 use Rattle.terminals_text.specs.Text.{line, lines}
-use Rattle.text.proofs.Stores.{Put, then, put_as}
+use Rattle.text.proofs.Stores.{then, put_as}
 use Rattle.terminals_text.proofs.unchecked.put_lines.Goals as goal
 
 pub loop-column-init : goal.loop-column-init

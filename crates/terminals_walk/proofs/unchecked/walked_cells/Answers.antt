@@ -15,7 +15,6 @@ use Rattle.extend_fractions.specs.Fractions.{fractions_of, Divisible}
 use Rattle.terminals_extended.specs.Extended.{extended_answer, extended_cells}
 use Rattle.terminals_walk.specs.Grown.{EndsInPadding, Growing}
 use Rattle.terminals_walk.proofs.Walked as walk
-use borrow.Author.Rules.{rules}
 use Rattle.terminals_walk.proofs.unchecked.walked_cells.Goals as goal
 
 pub extended_cells-answer-requires : goal.extended_cells-answer-requires
