@@ -1,5 +1,5 @@
-"""Holds what `tealbobbin_c` exports to the public functions of `tealbobbin`: the same names, parameters, answers and clauses, over
-the same imports for clauses; and each body is the call of the function of that name with the parameters as they stand.
+"""Holds what `tealbobbin_c` exports to the public functions of `tealbobbin`: the same names, parameters, answers and clauses, each
+name in these imported as there; and each body is the call of the function of that name with the parameters as they stand.
 
 So what is proved of the contracts of `tealbobbin` (`terms_calls`) holds of the functions that C calls.
 """
@@ -9,11 +9,13 @@ import sys
 
 
 def functions(crate, begins):
-    """By name, a function's parameters, its answer with its clauses, and its body, without layout; and the imports for clauses."""
+    """By name, a function's parameters, its answer with its clauses, and its body, without layout; and what is imported for clauses."""
     found, uses = {}, set()
-    for path in pathlib.Path(f"crates/{crate}/src").rglob("*.rt"):
-        text = path.read_text()
-        uses |= set(re.findall(r"^ghost use .*;$", text, re.M))
+    for file in pathlib.Path(f"crates/{crate}/src").rglob("*.rt"):
+        text = file.read_text()
+        for path, names in re.findall(r"^ghost use (.*)\.\{(.*)\};$", text, re.M):
+            uses |= {f"{path}.{it.strip()}" for it in names.split(",")}
+        uses |= set(re.findall(r"^ghost use [^{}]*;$", text, re.M))
         for name, parameters, clauses, body in re.findall(rf"^{begins}fn (\w+)\(([^)]*)\)(.*?)^{{\n(.*?)^}}$", text, re.M | re.S):
             flat = [re.sub(r"\s+", " ", part).strip(" ,") for part in (parameters, clauses, body)]
             found[name] = flat
@@ -22,7 +24,7 @@ def functions(crate, begins):
 
 here, uses = functions("tealbobbin", r"pub ")
 exported, its_uses = functions("tealbobbin_c", r"#\[unsafe\(no_mangle\)\]\npub extern \"C\" ")
-faults = [f"crates/tealbobbin_c: {line}" for line in sorted(uses ^ its_uses)]
+faults = [f"crates/tealbobbin_c: {it} is not imported so in tealbobbin" for it in sorted(its_uses - uses)]
 for name in sorted(here.keys() | exported.keys()):
     if name not in here or name not in exported:
         faults.append(f"{name} is in one of tealbobbin and tealbobbin_c alone")

@@ -7,15 +7,15 @@ mod main_column;
 pub mod unchecked;
 
 // Where a main column stands in a row of words.
-#[derive(Clone, Copy)]
+#[derive(Clone, Copy, PartialEq, Eq)]
 pub struct MainIndex(pub usize);
 
 // Where an auxiliary column stands in a row of elements.
-#[derive(Clone, Copy)]
+#[derive(Clone, Copy, PartialEq, Eq)]
 pub struct AuxIndex(pub usize);
 
 // Where a challenge stands in the record of elements.
-#[derive(Clone, Copy)]
+#[derive(Clone, Copy, PartialEq, Eq)]
 pub struct ChallengeId(pub usize);
 
 // The words of a row of auxiliary cells, of the record, and of the sampled challenges in it: three an element.

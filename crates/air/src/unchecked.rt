@@ -7,6 +7,5 @@ pub fn word_at(row: &[u64], column: MainIndex) -> u64
     requires { column.0 < length row.now }
     ensures { result ≡ get_or row.now column.0 0 }
 {
-    let at = column.0;
-    row[at]
+    row[column.0]
 }

@@ -1,10 +1,8 @@
 -- The names of the instructions, as the Rust prints them.
-use Rattle.std.specs.Prelude.{◌≡◌, List, ℕ, ◌*◌, ◌<◌, take, drop}
-use Rattle.isa.specs.Instruction.{opcode_of}
+use Rattle.std.specs.Prelude.{List, ℕ}
 use Rattle.isa.specs.declared.Instruction.{Instruction}
 use Rattle.isa.specs.declared.Instruction.TheVariants.{Push, Pop, Divine, Pick, Place, Dup, Swap, Halt, Nop, Skiz, Call, Return, Recurse, RecurseOrReturn, Assert, ReadMem, WriteMem, Hash, AssertVector, SpongeInit, SpongeAbsorb, SpongeAbsorbMem, SpongeSqueeze, Add, AddI, Mul, Invert, Eq, Split, Lt, And, Xor, Log2Floor, Pow, DivMod, PopCount, XxAdd, XxMul, XInvert, XbMul, ReadIo, WriteIo, MerkleStep, MerkleStepMem, XxDotStep, XbDotStep}
 use Rattle.text.specs.Ascii.{ascii}
-use Rattle.air_names.specs.Name.{before_space}
 
 unfoldable pub name_of : Instruction → List ℕ
 name_of (Push n) = ascii "push"
@@ -53,7 +51,3 @@ name_of MerkleStep = ascii "merkle_step"
 name_of MerkleStepMem = ascii "merkle_step_mem"
 name_of XxDotStep = ascii "xx_dot_step"
 name_of XbDotStep = ascii "xb_dot_step"
-
--- each instruction's name stands in the line of its opcode, of 17 bytes
-abbrev pub Listed : List ℕ → Type 0
-Listed table = (i : Instruction) → (opcode_of i < 89) × (before_space (take 17 (drop (opcode_of i * 17) table)) ≡ name_of i)

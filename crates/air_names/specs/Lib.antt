@@ -1,3 +1,2 @@
 -- The names of instructions.
-pub mod Name
 pub mod Instruction

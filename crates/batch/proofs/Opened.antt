@@ -12,8 +12,6 @@ use Rattle.refusal.proofs.Answers.{or-false}
 use Rattle.field_base.proofs.Below.{and-true}
 use Rattle.refusal.specs.declared.Refusal.TheVariants.{SliceLength}
 use Rattle.batch_reader.specs.declared.Counts.{Counts}
-use Rattle.batch_reader.specs.declared.OpenAnswer.{OpenAnswer}
-use Rattle.batch_reader.specs.declared.OpenAnswer.TheVariants.{Opened, Refused}
 use Rattle.batch_commands.specs.Format.{OP-STACK, RAM, JUMP-STACK, INPUT, OUTPUT, Command}
 use Rattle.batch_reader.specs.Commands.{counts, announced, height_of}
 use Rattle.batch_reader.specs.Reading.{Reading, read, refused, reading}
@@ -22,6 +20,8 @@ use Rattle.batch.specs.Open.{open_answer}
 use Rattle.batch.specs.Lent.{Within}
 use Rattle.batch_reader.proofs.Bounds.{Bounded, bounded, HeightSet, height_set}
 use Rattle.batch_reader.proofs.Rows.{few_rows}
+use Rattle.std.specs.Prelude.{Result, Ok, Err}
+use Rattle.refusal.specs.declared.Refusal.{Refusal}
 
 in_range : (ks : List Command) → HeightSet ks → height_of ks ≤ 22
 in_range ks (inl none) = omega (arith, none.1)
@@ -42,14 +42,14 @@ of_commands ks b set =
       height = in_range ks set;
     }
 
-by_reading : (batch : List ℕ) (r : Reading) (counts : Counts) → reading batch ≡ r → answer_of r ≡ Opened counts → Within counts 1248 128 128 128 64 64
+by_reading : (batch : List ℕ) (r : Reading) (counts : Counts) → reading batch ≡ r → answer_of r ≡ Ok counts → Within counts 1248 128 128 128 64 64
 by_reading batch (read ks) counted e a = let same : counts_in (counts ks) (height_of ks) ≡ counted = cc in rw (sym same) (of_commands ks (bounded batch ks e) (height_set batch ks e))
 by_reading batch (refused refusal) counted e a = let z : ◌≡◌ {A = ℕ} 0 1 = cc in absurd (omega arith)
 
-not_long : (long : Bool) (answer : OpenAnswer) (counts : Counts) → cond (long || false) (Refused SliceLength) answer ≡ Opened counts → answer ≡ Opened counts
+not_long : (long : Bool) (answer : Result Counts Refusal) (counts : Counts) → cond (long || false) (Err SliceLength) answer ≡ Ok counts → answer ≡ Ok counts
 not_long true answer counts e = let z : ◌≡◌ {A = ℕ} 0 1 = cc in absurd (omega arith)
 not_long false answer counts e = e
 
-pub within_opened : (batch : List ℕ) (counts : Counts) → open_answer batch 1248 128 128 128 177 5 64 64 ≡ Opened counts → Within counts 1248 128 128 128 64 64
+pub within_opened : (batch : List ℕ) (counts : Counts) → open_answer batch 1248 128 128 128 177 5 64 64 ≡ Ok counts → Within counts 1248 128 128 128 64 64
 unfolding open_answer
 within_opened batch counts e = by_reading batch (reading batch) counts refl (not_long (ltb 16384 (length batch)) (answer_of (reading batch)) counts e)

@@ -1,23 +1,18 @@
 -- Open: the answer, and what each lent slice holds then.
-use Rattle.std.specs.Prelude.{Bool, not, ◌&&◌, ◌||◌, List, [], ◌∷◌, ℕ, ◌*◌, eqb, ltb, length}
-use Rattle.refusal.specs.Tests.{◌when◌, first_or, number_of}
+use Rattle.std.specs.Prelude.{Bool, not, ◌&&◌, ◌||◌, List, [], ◌∷◌, ℕ, ◌*◌, eqb, ltb, length, Result, Ok, Err}
+use Rattle.refusal.specs.Tests.{◌when◌, first_or}
 use Rattle.refusal.specs.declared.Refusal.TheVariants.{SliceLength}
 use Rattle.air.specs.MainColumn.{MAIN-WIDTH}
 use Rattle.air.specs.ChallengeId.{SAMPLED-WORDS, DIGEST-WORDS}
 use Rattle.batch_commands.specs.Format.{MAX-ROWS, MAX-DIFFERENCES, MAX-WORDS}
-use Rattle.batch_reader.specs.declared.OpenAnswer.{OpenAnswer}
-use Rattle.batch_reader.specs.declared.OpenAnswer.TheVariants.{Opened, Refused}
 use Rattle.batch_reader.specs.Reading.{reading}
 use Rattle.batch_reader.specs.Answers.{answer_of, brought, written}
+use Rattle.refusal.specs.declared.Refusal.{Refusal}
+use Rattle.batch_reader.specs.declared.Counts.{Counts}
 
--- the paper's number and its seven counts: 0 for a batch that was opened
-abbrev pub open_number : OpenAnswer → ℕ
-open_number (Opened counts) = 0
-open_number (Refused refusal) = number_of refusal
-
-abbrev pub open_counts : OpenAnswer → List ℕ
-open_counts (Opened counts) = counts.rows ∷ counts.op_stack ∷ counts.ram ∷ counts.jump_stack ∷ counts.input ∷ counts.output ∷ counts.log2_height ∷ []
-open_counts (Refused refusal) = []
+abbrev pub open_counts : Result Counts Refusal → List ℕ
+open_counts (Ok counts) = counts.rows ∷ counts.op_stack ∷ counts.ram ∷ counts.jump_stack ∷ counts.input ∷ counts.output ∷ counts.log2_height ∷ []
+open_counts (Err refusal) = []
 
 abbrev pub MAX-BYTES : ℕ
 MAX-BYTES = 16384
@@ -37,15 +32,15 @@ right_lengths trace op_stack ram jump_stack sampled digest input output =
     && eqb output MAX-WORDS
 
 -- "1 over 16,384 bytes or at another slice length. Then left to right"
-unfoldable pub open_answer : List ℕ → ℕ → ℕ → ℕ → ℕ → ℕ → ℕ → ℕ → ℕ → OpenAnswer
+unfoldable pub open_answer : List ℕ → ℕ → ℕ → ℕ → ℕ → ℕ → ℕ → ℕ → ℕ → Result Counts Refusal
 unfolding reading
 open_answer batch trace op_stack ram jump_stack sampled digest input output =
-    first_or Refused
+    first_or Err
     ((SliceLength when ltb MAX-BYTES (length batch) || not (right_lengths trace op_stack ram jump_stack sampled digest input output)) ∷ [])
     (answer_of (reading batch))
 
 -- what a slice holds after an answer
-unfoldable pub open_slice : OpenAnswer → ℕ → List ℕ → List ℕ → List ℕ
+unfoldable pub open_slice : Result Counts Refusal → ℕ → List ℕ → List ℕ → List ℕ
 unfolding brought
-open_slice (Opened counts) code batch slice = written (brought code batch) slice
-open_slice (Refused refusal) code batch slice = slice
+open_slice (Ok counts) code batch slice = written (brought code batch) slice
+open_slice (Err refusal) code batch slice = slice

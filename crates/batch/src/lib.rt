@@ -6,9 +6,9 @@ ghost use Rattle.batch_commands.specs.Format.{ROW, OP-STACK, RAM, JUMP-STACK, SA
 ghost use Rattle.batch.specs.Open.{right_lengths, open_answer, open_slice};
 
 use air::{DIGEST_WORDS, MainIndex, SAMPLED_WORDS};
-use batch_commands::{MAX_DIFFERENCES, MAX_ROWS, MAX_WORDS};
+use batch_commands::{Code, MAX_DIFFERENCES, MAX_ROWS, MAX_WORDS};
 use batch_reader::unchecked::{put_rows, put_section};
-use batch_reader::{OpenAnswer, read};
+use batch_reader::{Counts, read};
 use field_montgomery::Form;
 use refusal::Refusal;
 
@@ -46,31 +46,18 @@ fn right_lengths(
 ) -> bool
     ensures { result ≡ right_lengths trace op_stack ram jump_stack sampled digest input output }
 {
-    if trace != TRACE_WORDS {
-        return false;
-    }
-    if op_stack != MAX_DIFFERENCES {
-        return false;
-    }
-    if ram != MAX_DIFFERENCES {
-        return false;
-    }
-    if jump_stack != MAX_DIFFERENCES {
-        return false;
-    }
-    if sampled != SAMPLED_WORDS {
-        return false;
-    }
-    if digest != DIGEST_WORDS {
-        return false;
-    }
-    if input != MAX_WORDS {
-        return false;
-    }
-    output == MAX_WORDS
+    trace == TRACE_WORDS
+        && op_stack == MAX_DIFFERENCES
+        && ram == MAX_DIFFERENCES
+        && jump_stack == MAX_DIFFERENCES
+        && sampled == SAMPLED_WORDS
+        && digest == DIGEST_WORDS
+        && input == MAX_WORDS
+        && output == MAX_WORDS
 }
 
 // Reads the batch into the slices, or writes nothing where it refuses.
+#[tactic(auto, unfolding(crate::specs::Open::open_answer, crate::specs::Open::open_slice, batch_reader::specs::Answers::brought))]
 pub fn open(
     batch: &[u8],
     trace: &mut [u64],
@@ -81,7 +68,7 @@ pub fn open(
     digest: &mut [u64],
     input: &mut [u64],
     output: &mut [u64],
-) -> OpenAnswer
+) -> Result<Counts, Refusal>
     ensures answer { result ≡ open_answer batch.now
         (length trace.old) (length op_stack.old) (length ram.old) (length jump_stack.old)
         (length sampled.old) (length digest.old) (length input.old) (length output.old) }
@@ -94,46 +81,29 @@ pub fn open(
     ensures input { input.new ≡ open_slice result INPUT batch.now input.old }
     ensures output { output.new ≡ open_slice result OUTPUT batch.now output.old }
 {
-    if MAX_LEN < batch.len() {
-        return OpenAnswer::Refused(Refusal::SliceLength);
+    if MAX_LEN < batch.len()
+        || !right_lengths(
+            trace.len(),
+            op_stack.len(),
+            ram.len(),
+            jump_stack.len(),
+            sampled.len(),
+            digest.len(),
+            input.len(),
+            output.len(),
+        )
+    {
+        return Err(Refusal::SliceLength);
     }
-    if !right_lengths(
-        trace.len(),
-        op_stack.len(),
-        ram.len(),
-        jump_stack.len(),
-        sampled.len(),
-        digest.len(),
-        input.len(),
-        output.len(),
-    ) {
-        return OpenAnswer::Refused(Refusal::SliceLength);
-    }
-    let answer = read(batch);
-    match answer {
-        OpenAnswer::Refused(refusal) => OpenAnswer::Refused(refusal),
-        OpenAnswer::Opened(counts) => {
-            let at = put_section(
-                batch,
-                digest_at(counts.log2_height),
-                batch_commands::DIGEST,
-                Form::Plain,
-                digest,
-            );
-            let at = put_section(batch, at, batch_commands::INPUT, Form::Plain, input);
-            let at = put_section(batch, at, batch_commands::OUTPUT, Form::Plain, output);
-            let at = put_section(batch, at, batch_commands::SAMPLED, Form::Plain, sampled);
-            let at = put_rows(batch, at, trace);
-            let at = put_section(batch, at, batch_commands::OP_STACK, Form::Plain, op_stack);
-            let at = put_section(batch, at, batch_commands::RAM, Form::Plain, ram);
-            put_section(
-                batch,
-                at,
-                batch_commands::JUMP_STACK,
-                Form::Plain,
-                jump_stack,
-            );
-            OpenAnswer::Opened(counts)
-        }
-    }
+    let counts = read(batch)?;
+    let at = digest_at(counts.log2_height);
+    let at = put_section(batch, at, Code::Digest, Form::Plain, digest);
+    let at = put_section(batch, at, Code::Input, Form::Plain, input);
+    let at = put_section(batch, at, Code::Output, Form::Plain, output);
+    let at = put_section(batch, at, Code::Sampled, Form::Plain, sampled);
+    let at = put_rows(batch, at, trace);
+    let at = put_section(batch, at, Code::OpStack, Form::Plain, op_stack);
+    let at = put_section(batch, at, Code::Ram, Form::Plain, ram);
+    put_section(batch, at, Code::JumpStack, Form::Plain, jump_stack);
+    Ok(counts)
 }

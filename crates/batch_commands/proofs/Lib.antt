@@ -1,5 +1,5 @@
--- Laws on tables, heads and layouts.
+-- Laws on tables and layouts, and the judge.
 pub mod Tables
-pub mod Heads
 pub mod Laid
 pub mod Heights
+mod Judging

@@ -10,13 +10,17 @@ use lib.ListN.{length, take, drop, get_or}
 use lib.Seq.{take-take}
 use borrow.Author.Tests.{eqb-true, eqb-false, ne_eqb, leb-true, leb-false, ltb-true}
 use Rattle.batch_words.specs.Words.{words}
-use Rattle.batch_words.proofs.Bytes.{drop-take, words_within, length-words}
+use Rattle.std.proofs.lemmas.List.{drop-take}
+use Rattle.batch_words.proofs.Bytes.{words_within, length-words}
 use Rattle.field_base.proofs.Below.{and-true}
 use Rattle.refusal.proofs.Answers.{or-false}
 use Rattle.field_montgomery.specs.declared.Form.{Form}
 use Rattle.field_montgomery.specs.declared.Form.TheVariants.{Plain, Montgomery}
-use Rattle.batch_commands.specs.Format.{ROW, OP-STACK, RAM, JUMP-STACK, MONTGOMERY-ROW, Line, lines, is_in, COMMANDS, from, known, said, width, words_at, word_count, words_in, limit, key_width, rank, key}
+use Rattle.batch_commands.specs.Format.{ROW, MONTGOMERY-ROW, Line, lines, is_in, COMMANDS, from, known, said, width, words_at, word_count, words_in, limit, key_width, rank, key}
 use Rattle.batch_commands.specs.Form.{row_command, OfForm}
+use Rattle.batch_commands.specs.declared.Code.{Code}
+use Rattle.batch_commands.specs.declared.Code.TheVariants.{End, TraceRows, Row, OpStack, Ram, JumpStack, Sampled, Digest, Input, Output, MontgomeryRow, Height}
+use Rattle.batch_commands.specs.Code.{byte_of}
 
 pub map_at : (f : ℕ → ℕ) (a n i : ℕ) → i < n → get_or (map f (from a n)) i 0 ≡ f (a + i)
 map_at f a zero i l = absurd (not-suc-le-zero l)
@@ -24,26 +28,6 @@ map_at f a (suc n) zero l = ap f (sym (add-zero a))
 map_at f a (suc n) (suc i) l =
     let e : suc a + i ≡ a + suc i = omega arith in
     map_at f (suc a) n i (omega arith) ∙ ap f e
-
--- an arm of a match on a command
-pub arm : (f : ℕ → ℕ) {code k : ℕ} → code ≡ k → f k ≡ f code
-arm f e = ap f (sym e)
-
--- no command is left for the rest
-up : (k code : ℕ) → k ≤ code → (code ≡ k → ⊥) → suc k ≤ code
-up k code l n = omega arith
-
-abbrev Others : ℕ → Type 0
-Others code = (((((((((((Unit × (code ≡ 0 → ⊥)) × (code ≡ 1 → ⊥)) × (code ≡ 2 → ⊥)) × (code ≡ 3 → ⊥)) × (code ≡ 4 → ⊥)) × (code ≡ 5 → ⊥)) × (code ≡ 6 → ⊥)) × (code ≡ 7 → ⊥)) × (code ≡ 8 → ⊥)) × (code ≡ 9 → ⊥)) × (code ≡ 11 → ⊥)) × (code ≡ 10 → ⊥)
-
-none_left : (code : ℕ) → 10 ≤ code → code < COMMANDS → (code ≡ 11 → ⊥) → (code ≡ 10 → ⊥) → ⊥
-none_left code u l n m = omega arith
-
-pub no_other : (code : ℕ) → code < COMMANDS → Others code → ⊥
-no_other code l n =
-    let u = up 9 code (up 8 code (up 7 code (up 6 code (up 5 code (up 4 code (up 3 code (up 2 code (up 1 code (up 0 code (omega arith)
-    n.0.0.0.0.0.0.0.0.0.0.0.1) n.0.0.0.0.0.0.0.0.0.0.1) n.0.0.0.0.0.0.0.0.0.1) n.0.0.0.0.0.0.0.0.1) n.0.0.0.0.0.0.0.1) n.0.0.0.0.0.0.1) n.0.0.0.0.0.1) n.0.0.0.0.1) n.0.0.0.1) n.0.0.1 in
-    none_left code u l n.0.1 n.1
 
 -- P of each of n numbers from a on
 abbrev pub Each : (ℕ → Type 0) → ℕ → ℕ → Type 0
@@ -140,19 +124,6 @@ pub row_rank : (form : Form) → rank (row_command form) ≡ rank ROW
 row_rank Plain = refl
 row_rank Montgomery = refl
 
--- a command that is no difference has no key
-keyless_by : (code : ℕ) (op_stack ram jump_stack : Bool) → eqb code OP-STACK ≡ op_stack → eqb code RAM ≡ ram → eqb code JUMP-STACK ≡ jump_stack
-    → ((Unit {0} × (code ≡ OP-STACK → ⊥)) × (code ≡ RAM → ⊥)) × (code ≡ JUMP-STACK → ⊥) → (op_stack || ram || jump_stack || eqb (key_width code) 0) ≡ true → key_width code ≡ 0
-keyless_by code true ram jump_stack e f g n t = absurd (n.0.0.1 (eqb-true code OP-STACK e))
-keyless_by code false true jump_stack e f g n t = absurd (n.0.1 (eqb-true code RAM f))
-keyless_by code false false true e f g n t = absurd (n.1 (eqb-true code JUMP-STACK g))
-keyless_by code false false false e f g n t = eqb-true (key_width code) 0 t
-
-pub keyless : (code : ℕ) → code < COMMANDS → ((Unit {0} × (code ≡ OP-STACK → ⊥)) × (code ≡ RAM → ⊥)) × (code ≡ JUMP-STACK → ⊥) → key_width code ≡ 0
-keyless code l n =
-    keyless_by code (eqb code OP-STACK) (eqb code RAM) (eqb code JUMP-STACK) refl refl refl n
-    (of_test (λ c. eqb c OP-STACK || eqb c RAM || eqb c JUMP-STACK || eqb (key_width c) 0) refl code l)
-
 -- the key lies in the operand
 pub key_within : (code : ℕ) (bytes : List ℕ) → code < COMMANDS → key code (take (width code) bytes) ≡ key code bytes
 unfolding key
@@ -187,3 +158,18 @@ all_words code bytes =
 
 pub length-words_in : (code : ℕ) (bytes : List ℕ) → length (words_in code bytes) ≡ width code / 8
 length-words_in code bytes = ap length (all_words code bytes) ∙ length-words (width code / 8) bytes
+
+-- each command of the code
+pub byte_known : (code : Code) → byte_of code < COMMANDS
+byte_known End = lit< tt
+byte_known TraceRows = lit< tt
+byte_known Row = lit< tt
+byte_known OpStack = lit< tt
+byte_known Ram = lit< tt
+byte_known JumpStack = lit< tt
+byte_known Sampled = lit< tt
+byte_known Digest = lit< tt
+byte_known Input = lit< tt
+byte_known Output = lit< tt
+byte_known MontgomeryRow = lit< tt
+byte_known Height = lit< tt

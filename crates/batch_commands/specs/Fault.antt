@@ -1,17 +1,15 @@
 -- What is wrong with a command after the commands that were seen, and what stands at a place.
-use Rattle.std.specs.Prelude.{Bool, cond, not, ◌&&◌, ◌||◌, List, [], ◌∷◌, ℕ, ◌-◌, ◌^◌, eqb, leb, ltb, length, take, get_or}
+use Rattle.std.specs.Prelude.{Bool, cond, not, ◌&&◌, ◌||◌, List, [], ◌∷◌, ℕ, ◌-◌, ◌^◌, eqb, leb, ltb, length, take, get_or, Result, Ok, Err}
 use Rattle.field_base.specs.Words.{all_below}
-use Rattle.refusal.specs.declared.Answer.{Answer}
 use Rattle.refusal.specs.declared.Refusal.TheVariants.{UnknownCommand, BatchCutOff, CommandOutOfPlace, CommandOutOfOrder, RowCount, HeightOutOfRange, WordNotBelowP}
 use Rattle.refusal.specs.Tests.{Tests, ◌when◌, ◌unless◌, first}
 use Rattle.batch_commands.specs.declared.Seen.{Seen}
-use Rattle.batch_commands.specs.declared.Head.{Head}
-use Rattle.batch_commands.specs.declared.Head.TheVariants.{Unknown, CutOff, Whole}
 use Rattle.batch_words.specs.Words.{number, words}
 use Rattle.field_montgomery.specs.declared.Form.{Form}
 use Rattle.field_montgomery.specs.declared.Form.TheVariants.{Plain, Montgomery}
 use Rattle.batch_commands.specs.Format.{END, TRACE-ROWS, ROW, SAMPLED, DIGEST, MONTGOMERY-ROW, HEIGHT, MAX-ROWS, MAX-LOG-2-HEIGHT, known, width, words_in, limit, rank, key}
 use Rattle.batch_commands.specs.Form.{row_command}
+use Rattle.refusal.specs.declared.Refusal.{Refusal}
 
 -- the form of the rows that came, and how many they are, where `came` says how often each command came, by its byte
 abbrev pub form_in : List ℕ → Form
@@ -63,7 +61,7 @@ judge_tests seen code bytes =
     ∷ (WordNotBelowP unless all_below (words_in code bytes))
     ∷ []
 
-unfoldable pub judged : Seen → ℕ → List ℕ → Answer
+unfoldable pub judged : Seen → ℕ → List ℕ → Result (Unit {0}) Refusal
 unfolding number words all_below key
 judged seen code bytes = first (judge_tests seen code bytes)
 
@@ -71,11 +69,11 @@ judged seen code bytes = first (judge_tests seen code bytes)
 abbrev pub fault_tests : Seen → ℕ → List ℕ → Tests
 fault_tests seen code bytes = (UnknownCommand unless known code) ∷ (BatchCutOff when ltb (length bytes) (width code)) ∷ judge_tests seen code bytes
 
-unfoldable pub fault : Seen → ℕ → List ℕ → Answer
+unfoldable pub fault : Seen → ℕ → List ℕ → Result (Unit {0}) Refusal
 unfolding number words all_below key
 fault seen code bytes = first (fault_tests seen code bytes)
 
--- what the bytes from a place on begin with
-abbrev pub head_of : List ℕ → Head
-head_of [] = CutOff
-head_of (code ∷ bytes) = cond (not (known code)) Unknown (cond (ltb (length bytes) (width code)) CutOff (Whole code))
+-- the command that the bytes from a place on begin with, with its whole operand
+abbrev pub head_of : List ℕ → Result ℕ Refusal
+head_of [] = Err BatchCutOff
+head_of (code ∷ bytes) = cond (not (known code)) (Err UnknownCommand) (cond (ltb (length bytes) (width code)) (Err BatchCutOff) (Ok code))

@@ -2,3 +2,4 @@
 pub mod Format
 pub mod Form
 pub mod Fault
+pub mod Code

@@ -1,2 +1,2 @@
--- Laws on tests.
+-- A law on lengths.
 pub mod Tests

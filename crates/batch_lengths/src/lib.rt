@@ -1,8 +1,8 @@
 // The lengths of what is written.
 #![tactic(auto)]
 
-ghost use Rattle.std.specs.Prelude.{◌≡◌};
-ghost use Rattle.batch_lengths.specs.Lengths.{height_length, right_numbers};
+ghost use Rattle.std.specs.Prelude.{◌≡◌, ◌≤◌, eqb};
+ghost use Rattle.batch_lengths.specs.Lengths.{height_length, batch_length, right_numbers};
 
 use air::{DIGEST_WORDS, MainIndex, SAMPLED_WORDS};
 use batch_commands::{MAX_DIFFERENCES, MAX_WORDS};
@@ -23,6 +23,17 @@ fn height_len(log2_height: usize) -> usize
     if log2_height == 0 { 0 } else { HEIGHT_LEN }
 }
 
+// Whether a batch with k, so many rows, and so many differences and words is that long.
+fn is_batch_length(log2_height: usize, rows: usize, words: usize, batch: usize) -> bool
+    requires { words ≤ 512 }
+    ensures { result ≡ eqb batch (batch_length log2_height rows words) }
+{
+    let without_rows = ONCE_LEN + height_len(log2_height) + WORD_LEN * words;
+    without_rows <= batch
+        && (batch - without_rows) % ROW_LEN == 0
+        && (batch - without_rows) / ROW_LEN == rows
+}
+
 // Of whole rows, lists within their counts, and a batch as long as they make it.
 pub fn right_lengths(
     trace: usize,
@@ -38,38 +49,18 @@ pub fn right_lengths(
 ) -> bool
     ensures { result ≡ right_numbers trace op_stack ram jump_stack sampled digest input output log2_height batch }
 {
-    if trace % MainIndex::COUNT != 0 {
-        return false;
-    }
-    if MAX_DIFFERENCES < op_stack {
-        return false;
-    }
-    if MAX_DIFFERENCES < ram {
-        return false;
-    }
-    if MAX_DIFFERENCES < jump_stack {
-        return false;
-    }
-    if sampled != SAMPLED_WORDS {
-        return false;
-    }
-    if digest != DIGEST_WORDS {
-        return false;
-    }
-    if MAX_WORDS < input {
-        return false;
-    }
-    if MAX_WORDS < output {
-        return false;
-    }
-    let once = ONCE_LEN + height_len(log2_height);
-    let without_rows = once + WORD_LEN * (op_stack + ram + jump_stack + input + output);
-    if batch < without_rows {
-        return false;
-    }
-    let of_rows = batch - without_rows;
-    if of_rows % ROW_LEN != 0 {
-        return false;
-    }
-    of_rows / ROW_LEN == trace / MainIndex::COUNT
+    trace % MainIndex::COUNT == 0
+        && op_stack <= MAX_DIFFERENCES
+        && ram <= MAX_DIFFERENCES
+        && jump_stack <= MAX_DIFFERENCES
+        && sampled == SAMPLED_WORDS
+        && digest == DIGEST_WORDS
+        && input <= MAX_WORDS
+        && output <= MAX_WORDS
+        && is_batch_length(
+            log2_height,
+            trace / MainIndex::COUNT,
+            op_stack + ram + jump_stack + input + output,
+            batch,
+        )
 }

@@ -9,7 +9,6 @@ use lib.Dec.{eqb, leb}
 use lib.ListN.{take}
 use borrow.Author.Tests.{eqb-true, eq-eqb, ne_eqb, leb-true, not-false}
 use Rattle.field_base.proofs.Below.{and-true}
-use Rattle.refusal.specs.declared.Answer.TheVariants.{Done}
 use Rattle.batch_words.specs.Words.{number}
 use Rattle.batch_commands.specs.Format.{TRACE-ROWS, HEIGHT, Line, in_all, lines, COMMANDS, said, width, limit, Command}
 use Rattle.batch_commands.specs.Fault.{wrong_row_count, wrong_height, height_out_of_range, fault}
@@ -18,6 +17,7 @@ use Rattle.batch_reader.specs.Reading.{read, reading}
 use Rattle.batch_reader.proofs.Commands.{count_one, count_at, height_one, no_height}
 use Rattle.batch_reader.proofs.Passing.{Passes, passing}
 use Rattle.batch_reader.proofs.Readings.{at_start, kept}
+use Rattle.refusal.specs.Number.{Done}
 
 -- 01 stands first
 abbrev First : List Command → Type 0

@@ -1,82 +1,78 @@
 -- What the tests of a command say, in their order, and what a step makes of them.
-use mathlib.Core.Path.{◌≡◌, refl, sym, ◌∙◌}
+use mathlib.Core.Path.{◌≡◌, refl, sym}
 use mathlib.Core.Bool.{Bool, true, false, cond, not}
 use mathlib.Core.List.{List, [], ◌∷◌}
-use Prim.Native.Nat.{ℕ, ◌+◌, ◌-◌, ◌≤◌, ◌<◌}
+use Prim.Native.Nat.{ℕ, ◌+◌, ◌≤◌}
 use native.Mathlib.Omega.{arith}
 use lib.Dec.{eqb, ltb}
-use lib.ListN.{length, drop}
-use borrow.Author.Tests.{ltb-false, leb-false, eqb-false}
-use Rattle.refusal.specs.declared.Answer.{Answer}
-use Rattle.refusal.specs.declared.Answer.TheVariants as answer
-use Rattle.refusal.specs.declared.Answer.TheVariants.{Done}
+use lib.ListN.{length, drop, length-drop}
+use lib.Seq.{drop-drop}
+use borrow.Author.Tests.{ltb-false, eqb-false}
 use Rattle.refusal.specs.declared.Refusal.TheVariants.{UnknownCommand, BatchCutOff}
-use Rattle.batch_commands.specs.declared.Head.TheVariants.{Unknown, CutOff, Whole}
-use Rattle.batch_commands.specs.Format.{END, COMMANDS, known, width, Command}
+use Rattle.batch_commands.specs.Format.{END, known, width, Command}
 use Rattle.batch_commands.specs.Fault.{judged, fault, head_of}
-use Rattle.batch_commands.proofs.Tables.{unknown}
-use Rattle.batch_commands.proofs.Heads.{head_by}
-use Rattle.batch_reader.specs.declared.OpenAnswer.{OpenAnswer}
-use Rattle.batch_reader.specs.declared.OpenAnswer.TheVariants.{Opened, Refused}
 use Rattle.batch_commands.specs.declared.Seen.{Seen}
-use Rattle.batch_reader.specs.declared.Step.TheVariants.{Stop, Next}
 use Rattle.batch_reader.specs.Commands.{counts, height_of}
 use Rattle.batch_reader.specs.Reading.{Reading, read, unless}
 use Rattle.batch_reader.specs.Answers.{counts_in, answer_of}
 use Rattle.batch_reader.specs.Steps.{step_by, step_of}
+use Rattle.std.specs.Prelude.{Option, Some, None, Result, Ok, Err}
+use Rattle.refusal.specs.declared.Refusal.{Refusal}
+use Rattle.refusal.specs.Number.{Done}
 
-unknown_by : (unknown short : Bool) (code : ℕ) → head_by unknown short code ≡ Unknown → unknown ≡ true
-unknown_by true short code e = refl
-unknown_by false true code e = cc
-unknown_by false false code e = cc
+module _ (code : ℕ) where
+  refused_by : (unknown short : Bool) (judged : Result (Unit {0}) Refusal) (r : Refusal) → cond unknown (Err UnknownCommand) (cond short (Err BatchCutOff) (Ok code)) ≡ Err r
+      → step_by (cond unknown (Err UnknownCommand) (cond short (Err BatchCutOff) judged)) code ≡ Err r
+  refused_by true short judged r e = let z : UnknownCommand ≡ r = cc in rw z
+  refused_by false true judged r e = let z : BatchCutOff ≡ r = cc in rw z
+  refused_by false false judged r e = cc
 
-cut_off_by : (unknown short : Bool) (code : ℕ) → head_by unknown short code ≡ CutOff → (unknown ≡ false) × (short ≡ true)
-cut_off_by true short code e = (cc, cc)
-cut_off_by false true code e = (refl, refl)
-cut_off_by false false code e = (cc, cc)
-
-whole_by : (unknown short : Bool) (code k : ℕ) → head_by unknown short code ≡ Whole k → (unknown ≡ false) × (short ≡ false) × (k ≡ code)
-whole_by true short code k e = (cc, cc, cc)
-whole_by false true code k e = (cc, cc, cc)
-whole_by false false code k e = (refl, refl, cc)
+  whole_by : (unknown short : Bool) (k : ℕ) → ◌≡◌ {A = Result ℕ Refusal} (cond unknown (Err UnknownCommand) (cond short (Err BatchCutOff) (Ok code))) (Ok k) → (unknown ≡ false) × (short ≡ false) × (k ≡ code)
+  whole_by true short k e = (cc, cc, cc)
+  whole_by false true k e = (cc, cc, cc)
+  whole_by false false k e = (refl, refl, cc)
 
 -- what a head says of the step
 module _ (seen : Seen) where
-  pub unknown_step : (bytes : List ℕ) → head_of bytes ≡ Unknown → step_of seen bytes ≡ Stop (Refused UnknownCommand)
+  pub refused_step : (bytes : List ℕ) (r : Refusal) → head_of bytes ≡ Err r → Err r ≡ step_of seen bytes
   unfolding fault
-  unknown_step [] e = cc
-  unknown_step (code ∷ bytes) e = rw (unknown_by (not (known code)) (ltb (length bytes) (width code)) code e)
+  refused_step [] r e = let z : BatchCutOff ≡ r = cc in rw z
+  refused_step (code ∷ bytes) r e = sym (refused_by code (not (known code)) (ltb (length bytes) (width code)) _ r e)
 
-  pub cut_off_step : (bytes : List ℕ) → head_of bytes ≡ CutOff → step_of seen bytes ≡ Stop (Refused BatchCutOff)
-  unfolding fault
-  cut_off_step [] e = refl
-  cut_off_step (code ∷ bytes) e = let h = cut_off_by (not (known code)) (ltb (length bytes) (width code)) code e in rw (h.0, h.1)
-
-  pub whole_step : (bytes : List ℕ) (k : ℕ) → head_of bytes ≡ Whole k
-      → (k < COMMANDS) × (1 + width k ≤ length bytes) × (step_of seen bytes ≡ step_by (judged seen k (drop 1 bytes)) k seen.came seen.log2_height)
+  whole_step : (bytes : List ℕ) (k : ℕ) → head_of bytes ≡ Ok k
+      → (1 + width k ≤ length bytes) × (step_by (judged seen k (drop 1 bytes)) k ≡ step_of seen bytes)
   unfolding fault judged
-  whole_step [] k e = let z : ◌≡◌ {A = ℕ} 0 1 = cc in (omega arith, omega arith, cc)
+  whole_step [] k e = let z : ◌≡◌ {A = ℕ} 0 1 = cc in (omega arith, cc)
   whole_step (code ∷ bytes) k e =
-      let h = whole_by (not (known code)) (ltb (length bytes) (width code)) code k e in
-      let known = leb-false COMMANDS code (sym (unknown code) ∙ h.0) in
+      let h = whole_by code (not (known code)) (ltb (length bytes) (width code)) k e in
       let whole = ltb-false (length bytes) (width code) h.1 in
-      rw h.2 (omega arith, omega arith, rw (h.0, h.1))
+      rw h.2 (omega arith, rw (h.0, h.1))
 
--- a step that stops answers what the definition does
-stops : (answer : Answer) (code : ℕ) (last : Bool) (before : List Command) (next : Reading) (decided : OpenAnswer)
-    → eqb code END ≡ last → step_by answer code (counts before) (height_of before) ≡ Stop decided → decided ≡ answer_of (unless answer (cond last (read before) next))
-stops (answer.Refused r) code last before next decided q e = cc
-stops Done code true before next decided q e = let z : Stop (Opened (counts_in (counts before) (height_of before))) ≡ Stop decided = rw q at e in cc
-stops Done code false before next decided q e = let z : Next code ≡ Stop decided = rw q at e in cc
+pub step_there : (seen : Seen) (batch : List ℕ) (at k : ℕ) → head_of (drop at batch) ≡ Ok k → (at + 1 + width k ≤ length batch) × (step_by (judged seen k (drop (at + 1) batch)) k ≡ step_of seen (drop at batch))
+step_there seen batch at k e =
+    let w = whole_step seen (drop at batch) k e in
+    (omega (arith, w.0, length-drop at batch), rw drop-drop at w.1)
 
-pub stopped : (answer : Answer) (code : ℕ) (before : List Command) (next : Reading) (decided : OpenAnswer)
-    → step_by answer code (counts before) (height_of before) ≡ Stop decided → decided ≡ answer_of (unless answer (cond (eqb code END) (read before) next))
-stopped answer code before next decided e = stops answer code (eqb code END) before next decided refl e
+-- a step that refuses answers what the definition does
+pub stopped : (answer : Result (Unit {0}) Refusal) (code : ℕ) (next : Reading) (r : Refusal) → step_by answer code ≡ Err r → Err r ≡ answer_of (unless answer next)
+stopped (Err s) code next r e = let z : s ≡ r = cc in rw z
+stopped (Ok u) code next r e = cc
 
-goes : (answer : Answer) (code k : ℕ) (came : List ℕ) (height : ℕ) (last : Bool) → eqb code END ≡ last → step_by answer code came height ≡ Next k → (answer ≡ Done) × (code ≡ k) × (code ≡ END → ⊥)
-goes (answer.Refused r) code k came height last q e = let z : ◌≡◌ {A = ℕ} 0 1 = cc in (cc, omega arith, λ _. omega arith)
-goes Done code k came height true q e = let y : Stop (Opened (counts_in came height)) ≡ Next k = rw q at e in let z : ◌≡◌ {A = ℕ} 0 1 = cc in (refl, omega arith, λ _. omega arith)
-goes Done code k came height false q e = let y : Next code ≡ Next k = rw q at e in (refl, cc, eqb-false code END q)
+ends : (answer : Result (Unit {0}) Refusal) (code : ℕ) (last : Bool) (before : List Command) (next : Reading) → eqb code END ≡ last → step_by answer code ≡ Ok None
+    → Ok (counts_in (counts before) (height_of before)) ≡ answer_of (unless answer (cond last (read before) next))
+ends (Err s) code last before next q e = cc
+ends (Ok u) code true before next q e = refl
+ends (Ok u) code false before next q e = let z : ◌≡◌ {A = Result (Option ℕ) Refusal} (Ok (Some code)) (Ok None) = rw q at e in cc
 
-pub went : (answer : Answer) (code k : ℕ) (came : List ℕ) (height : ℕ) → step_by answer code came height ≡ Next k → (answer ≡ Done) × (code ≡ k) × (code ≡ END → ⊥)
-went answer code k came height e = goes answer code k came height (eqb code END) refl e
+-- and so does the last
+pub ended : (answer : Result (Unit {0}) Refusal) (code : ℕ) (before : List Command) (next : Reading) → step_by answer code ≡ Ok None
+    → Ok (counts_in (counts before) (height_of before)) ≡ answer_of (unless answer (cond (eqb code END) (read before) next))
+ended answer code before next e = ends answer code (eqb code END) before next refl e
+
+goes : (answer : Result (Unit {0}) Refusal) (code k : ℕ) (last : Bool) → eqb code END ≡ last → step_by answer code ≡ Ok (Some k) → (answer ≡ Done) × (code ≡ k) × (code ≡ END → ⊥)
+goes (Err r) code k last q e = let z : ◌≡◌ {A = ℕ} 0 1 = cc in (cc, omega arith, λ _. omega arith)
+goes (Ok u) code k true q e = let y : ◌≡◌ {A = Result (Option ℕ) Refusal} (Ok None) (Ok (Some k)) = rw q at e in let z : ◌≡◌ {A = ℕ} 0 1 = cc in (refl, omega arith, λ _. omega arith)
+goes (Ok u) code k false q e = let y : ◌≡◌ {A = Result (Option ℕ) Refusal} (Ok (Some code)) (Ok (Some k)) = rw q at e in (refl, cc, eqb-false code END q)
+
+pub went : (answer : Result (Unit {0}) Refusal) (code k : ℕ) → step_by answer code ≡ Ok (Some k) → (answer ≡ Done) × (code ≡ k) × (code ≡ END → ⊥)
+went answer code k e = goes answer code k (eqb code END) refl e

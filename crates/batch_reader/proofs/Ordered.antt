@@ -7,7 +7,6 @@ use native.Mathlib.Omega.{arith}
 use lib.Dec.{eqb, ltb}
 use lib.ListN.{take}
 use borrow.Author.Tests.{ltb-true, ltb-false, le-ltb, eqb-true, eqb-false}
-use Rattle.refusal.specs.declared.Answer.TheVariants.{Done}
 use Rattle.refusal.proofs.Answers.{or-false}
 use Rattle.batch_commands.specs.Format.{width, rank, key, Command}
 use Rattle.batch_commands.specs.Fault.{fault}
@@ -16,6 +15,7 @@ use Rattle.batch_reader.specs.Commands.{highest_rank, last_key, seen_in}
 use Rattle.batch_reader.specs.Reading.{read, reading}
 use Rattle.batch_reader.proofs.Passing.{passing}
 use Rattle.batch_reader.proofs.Readings.{at_start, kept}
+use Rattle.refusal.specs.Number.{Done}
 
 -- (s, n) does not belong before (r, m)
 abbrev pub NotBefore : ℕ → ℕ → ℕ → ℕ → Type 0

@@ -7,13 +7,13 @@ use lib.Dec.{eqb, leb}
 use lib.ListN.{length, take, get_or}
 use borrow.Author.Tests.{ltb-false, le-ltb, leb-false, lt-leb, not-false}
 use Rattle.field_base.specs.Words.{all_below}
-use Rattle.refusal.specs.declared.Answer.TheVariants.{Done}
 use Rattle.refusal.proofs.Answers.{or-false}
 use Rattle.refusal.proofs.First.{done_exactly}
 use Rattle.batch_commands.specs.declared.Seen.{Seen}
-use Rattle.batch_commands.specs.Format.{END, TRACE-ROWS, COMMANDS, known, width, words_in, limit}
+use Rattle.batch_commands.specs.Format.{END, TRACE-ROWS, COMMANDS, width, words_in, limit}
 use Rattle.batch_commands.specs.Fault.{mixed, missing, out_of_order, wrong_row_count, height_out_of_range, judged, fault_tests, fault}
 use Rattle.batch_commands.proofs.Tables.{unknown}
+use Rattle.refusal.specs.Number.{Done}
 
 pub record Passes (seen : Seen) (code : ℕ) (bytes : List ℕ) : Type 0 where
   pub known : code < COMMANDS

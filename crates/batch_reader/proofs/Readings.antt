@@ -9,19 +9,20 @@ use lib.Dec.{eqb}
 use lib.ListN.{length, take, drop, get_or}
 use lib.Seq.{drop-cons, drop-drop}
 use borrow.Author.Tests.{ne_eqb}
-use Rattle.refusal.specs.declared.Answer.{Answer}
-use Rattle.refusal.specs.declared.Answer.TheVariants.{Done, Refused}
 use Rattle.refusal.specs.declared.Refusal.TheVariants.{BatchCutOff}
 use Rattle.batch_commands.specs.Format.{END, width, Command}
 use Rattle.batch_commands.specs.Fault.{fault}
 use Rattle.batch_reader.specs.Commands.{seen_in}
 use Rattle.batch_reader.specs.Reading.{Reading, read, refused, unless, read_from, reading}
+use Rattle.std.specs.Prelude.{Result, Ok, Err}
+use Rattle.refusal.specs.declared.Refusal.{Refusal}
+use Rattle.refusal.specs.Number.{Done}
 
 -- the command that stands at a place
 abbrev pub command_at : List ℕ → ℕ → Command
 command_at batch at = record { code = get_or batch at 0; operand = take (width (get_or batch at 0)) (drop (at + 1) batch) }
 
-abbrev pub fault_at : List ℕ → ℕ → List Command → Answer
+abbrev pub fault_at : List ℕ → ℕ → List Command → Result (Unit {0}) Refusal
 fault_at batch at before = fault (seen_in before) (get_or batch at 0) (drop (at + 1) batch)
 
 abbrev pub past_at : List ℕ → ℕ → ℕ
@@ -54,9 +55,9 @@ step (suc n) batch at before e here =
     rw (drop-cons batch at 0 here, e₁, add-one, drop-drop (width (get_or batch at 0)) (suc at) batch)
 
 -- what is read was not refused
-pub of_unless : (answer : Answer) (next : Reading) (ks : List Command) → unless answer next ≡ read ks → (answer ≡ Done) × (next ≡ read ks)
-of_unless Done next ks e = (refl, e)
-of_unless (Refused r) next ks e = (cc, cc)
+pub of_unless : (answer : Result (Unit {0}) Refusal) (next : Reading) (ks : List Command) → unless answer next ≡ read ks → (answer ≡ Done) × (next ≡ read ks)
+of_unless (Ok u) next ks e = (refl, e)
+of_unless (Err r) next ks e = (cc, cc)
 
 module _ (batch : List ℕ) (at : ℕ) (before : List Command) (a : Along batch at before) where
   module _ (here : at < length batch) where

@@ -1,12 +1,11 @@
 -- What a reading answers and brings.
-use Rattle.std.specs.Prelude.{List, ◌++◌, ℕ, length, drop, get_or}
+use Rattle.std.specs.Prelude.{List, ◌++◌, ℕ, length, drop, get_or, Result, Ok, Err}
 use Rattle.batch_reader.specs.declared.Counts.{Counts}
-use Rattle.batch_reader.specs.declared.OpenAnswer.{OpenAnswer}
-use Rattle.batch_reader.specs.declared.OpenAnswer.TheVariants.{Opened, Refused}
 use Rattle.batch_commands.specs.Format.{OP-STACK, RAM, JUMP-STACK, INPUT, OUTPUT}
 use Rattle.batch_commands.specs.Fault.{rows_in}
 use Rattle.batch_reader.specs.Commands.{count, counts, contents, height_of, slice_from}
 use Rattle.batch_reader.specs.Reading.{Reading, read, refused, reading, commands_of}
+use Rattle.refusal.specs.declared.Refusal.{Refusal}
 
 -- "six counts: rows, op stack, RAM, jump stack, input, output", where each command came as often as `came` says. Document 02, Five: "Opening answers k as a seventh count"
 abbrev pub counts_in : List ℕ → ℕ → Counts
@@ -21,9 +20,9 @@ counts_in came k =
       log2_height = k;
     }
 
-abbrev pub answer_of : Reading → OpenAnswer
-answer_of (read commands) = Opened (counts_in (counts commands) (height_of commands))
-answer_of (refused refusal) = Refused refusal
+abbrev pub answer_of : Reading → Result Counts Refusal
+answer_of (read commands) = Ok (counts_in (counts commands) (height_of commands))
+answer_of (refused refusal) = Err refusal
 
 -- what the batch brings for one of the slices
 unfoldable pub brought : ℕ → List ℕ → List ℕ

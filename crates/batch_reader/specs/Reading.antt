@@ -1,7 +1,5 @@
 -- A batch read from left to right; the first command with a fault decides.
-use Rattle.std.specs.Prelude.{cond, List, [], ◌∷◌, ◌++◌, ℕ, zero, suc, eqb, length, take, drop}
-use Rattle.refusal.specs.declared.Answer.{Answer}
-use Rattle.refusal.specs.declared.Answer.TheVariants.{Done, Refused}
+use Rattle.std.specs.Prelude.{cond, List, [], ◌∷◌, ◌++◌, ℕ, zero, suc, eqb, length, take, drop, Result, Ok, Err}
 use Rattle.refusal.specs.declared.Refusal.{Refusal}
 use Rattle.refusal.specs.declared.Refusal.TheVariants.{BatchCutOff}
 use Rattle.batch_commands.specs.Format.{END, width, Command}
@@ -13,9 +11,9 @@ pub data Reading : Type 0 where
   read : List Command → Reading
   refused : Refusal → Reading
 
-abbrev pub unless : Answer → Reading → Reading
-unless (Refused refusal) next = refused refusal
-unless Done next = next
+abbrev pub unless : Result (Unit {0}) Refusal → Reading → Reading
+unless (Err refusal) next = refused refusal
+unless (Ok u) next = next
 
 -- what follows the commands `passed`; a command has at least one byte, so n at least the number of bytes is enough; "At the end 8 without 00"
 unfoldable pub read_from : ℕ → List Command → List ℕ → Reading

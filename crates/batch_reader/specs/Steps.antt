@@ -1,16 +1,13 @@
 -- One command, as the code has it: what it comes to after the commands that were seen, and what is then remembered.
-use Rattle.std.specs.Prelude.{cond, List, [], ◌∷◌, ℕ, ◌+◌, eqb, ltb, take, get_or, set, replicate}
-use Rattle.refusal.specs.declared.Answer.{Answer}
-use Rattle.refusal.specs.declared.Answer.TheVariants as answer
+use Rattle.std.specs.Prelude.{cond, List, [], ◌∷◌, ℕ, ◌+◌, eqb, ltb, take, get_or, set, replicate, Option, Some, None, option_map, Result, Ok, Err}
 use Rattle.refusal.specs.declared.Refusal.TheVariants.{BatchCutOff}
 use Rattle.batch_words.specs.Words.{number}
 use Rattle.batch_commands.specs.Format.{END, TRACE-ROWS, HEIGHT, COMMANDS, width, rank, key, Command}
 use Rattle.batch_commands.specs.declared.Seen.{Seen}
 use Rattle.batch_commands.specs.Fault.{fault}
-use Rattle.batch_reader.specs.declared.OpenAnswer.TheVariants.{Opened, Refused}
-use Rattle.batch_reader.specs.declared.Step.{Step}
-use Rattle.batch_reader.specs.declared.Step.TheVariants.{Stop, Next}
-use Rattle.batch_reader.specs.Answers.{counts_in}
+use Rattle.batch_commands.specs.declared.Code.{Code}
+use Rattle.batch_commands.specs.Code.{byte_of}
+use Rattle.refusal.specs.declared.Refusal.{Refusal}
 
 abbrev pub seen_nothing : Seen
 seen_nothing = record { rows = 0; log2_height = 0; came = replicate COMMANDS 0; rank = 0; key = 0 }
@@ -25,13 +22,19 @@ seen_past seen code bytes =
       key = key code bytes;
     }
 
-abbrev pub step_by : Answer → ℕ → List ℕ → ℕ → Step
-step_by (answer.Refused refusal) code came k = Stop (Refused refusal)
-step_by answer.Done code came k = cond (eqb code END) (Stop (Opened (counts_in came k))) (Next code)
+-- a command, by its byte, or None behind the last one
+abbrev pub step_by : Result (Unit {0}) Refusal → ℕ → Result (Option ℕ) Refusal
+step_by (Err refusal) code = Err refusal
+step_by (Ok u) code = Ok (cond (eqb code END) None (Some code))
 
-abbrev pub step_of : Seen → List ℕ → Step
-step_of seen [] = Stop (Refused BatchCutOff)
-step_of seen (code ∷ bytes) = step_by (fault seen code bytes) code seen.came seen.log2_height
+abbrev pub step_of : Seen → List ℕ → Result (Option ℕ) Refusal
+step_of seen [] = Err BatchCutOff
+step_of seen (code ∷ bytes) = step_by (fault seen code bytes) code
+
+-- a step of the code by the command's byte
+abbrev pub step_in : Result (Option Code) Refusal → Result (Option ℕ) Refusal
+step_in (Ok code) = Ok (option_map byte_of code)
+step_in (Err refusal) = Err refusal
 
 -- the bytes of the commands of a rank below r
 unfoldable pub bytes_below : ℕ → List Command → ℕ

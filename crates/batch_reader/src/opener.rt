@@ -1,24 +1,17 @@
 // A lent batch together with how far it has been read.
-ghost use Rattle.std.specs.Prelude.{◌≡◌, ◌+◌, ◌<◌, ◌≤◌, ◌^◌, length, drop};
-ghost use Rattle.batch_commands.specs.Format.{COMMANDS, width};
+ghost use Rattle.std.specs.Prelude.{◌≡◌, ◌+◌, ◌≤◌, length, drop};
+ghost use Rattle.batch_commands.specs.Format.{width};
+ghost use Rattle.batch_commands.specs.Code.{byte_of, byte_in};
 ghost use Rattle.batch_commands.specs.Fault.{head_of};
 
-use batch_commands::Head;
-use batch_commands::unchecked::width;
+use batch_commands::{Code, head_at};
+use refusal::Refusal;
 
 #[derive(Clone, Copy)]
 pub(crate) struct Opener<'a> {
     pub(crate) batch: &'a [u8],
     // How many bytes have been read.
     pub(crate) at: usize,
-}
-
-// The place behind the command that stands at a place.
-fn place_past(at: usize, code: usize) -> usize
-    requires { (code < COMMANDS) × (at + 1 + width code < 2 ^ 64) }
-    ensures { result ≡ at + 1 + width code }
-{
-    at + 1 + width(code)
 }
 
 impl<'a> Opener<'a> {
@@ -30,20 +23,20 @@ impl<'a> Opener<'a> {
     }
 
     // What stands there.
-    pub(crate) fn head(self) -> Head
-        ensures { result ≡ head_of (drop self.entry.at self.entry.batch.now) }
+    pub(crate) fn head(self) -> Result<Code, Refusal>
+        ensures { byte_in result ≡ head_of (drop self.entry.at self.entry.batch.now) }
     {
-        batch_commands::head_at(self.batch, self.at)
+        head_at(self.batch, self.at)
     }
 
     // The command that stands there has been read too.
-    pub(crate) fn past(self, code: usize) -> Opener<'a>
-        requires { (code < COMMANDS) × (self.at + 1 + width code ≤ length self.batch.now) }
-        ensures { (result.batch ≡ self.entry.batch) × (result.at ≡ self.entry.at + 1 + width code) }
+    pub(crate) fn past(self, code: Code) -> Opener<'a>
+        requires { self.at + 1 + width (byte_of code) ≤ length self.batch.now }
+        ensures { (result.batch ≡ self.entry.batch) × (result.at ≡ self.entry.at + 1 + width (byte_of code)) }
     {
         Opener {
             batch: self.batch,
-            at: place_past(self.at, code),
+            at: self.at + 1 + code.width(),
         }
     }
 }

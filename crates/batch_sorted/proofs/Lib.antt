@@ -1,4 +1,3 @@
 -- Laws on lists in ascending order.
 pub mod Lengths
-mod Inserting
-mod Sorting
+pub mod Sorting

@@ -1,12 +1,14 @@
 -- Bytes at a place: stored one by one, and behind bytes.
 use mathlib.Core.Path.{◌≡◌, refl, sym, ap, ◌∙◌}
-use mathlib.Core.List.{List, [], ◌∷◌, ◌++◌, append_assoc, append-nil}
-use Prim.Native.Nat.{ℕ, suc, ◌+◌, ◌≤◌}
-use native.Mathlib.Nat.{zero-add, add-suc}
+use mathlib.Core.List.{List, [], ◌∷◌, ◌++◌, append_assoc}
+use Prim.Native.Nat.{ℕ, suc, ◌+◌, ◌-◌, ◌≤◌}
+use native.Mathlib.Nat.{add-suc}
 use native.Mathlib.Numerals.{add-one}
 use native.Mathlib.Omega.{arith}
-use lib.ListN.{length, take, drop, set, length-append, length-drop}
-use lib.Seq.{length-take-le, take_at, drop-drop, drop-append-add, drop-length, sets, sets-eq, paste-zero}
+use lib.ListN.{length, take, drop, set, length-append}
+use lib.Seq.{length-take-le, take_at, drop-drop, drop-append-add, take_all, sets, sets-eq, paste-zero}
+use borrow.Rule.Slice.PartMut.{put_mid}
+use Rattle.std.proofs.lemmas.Slice.{put_mid-paste}
 use Rattle.batch_words.specs.Pasted.{pasted}
 
 -- bytes at at + k, at + suc k, ..
@@ -25,9 +27,6 @@ module _ (batch : List ℕ) (at : ℕ) (bs : List ℕ) (fits : at + length bs �
   front : length (take at batch ++ bs) ≡ at + length bs
   front = omega (arith, length-append (take at batch) bs, length-take-le at batch (omega arith))
 
-  pub length-pasted : length (pasted batch at bs) ≡ length batch
-  length-pasted = omega (arith, length-append (take at batch ++ bs) (drop (at + length bs) batch), front, length-drop (at + length bs) batch)
-
   -- bytes behind these
   pub pasted_on : (to : ℕ) (cs : List ℕ) → to ≡ at + length bs → pasted (pasted batch at bs) to cs ≡ pasted batch at (bs ++ cs)
   pasted_on to cs e =
@@ -40,14 +39,10 @@ module _ (batch : List ℕ) (at : ℕ) (bs : List ℕ) (fits : at + length bs �
       ∙ ap (λ n. drop n batch) past in
       ap (λ l. l ++ cs ++ drop (to + length cs) (head ++ tail)) (take_at head tail to long) ∙ ap (λ l. head ++ cs ++ l) rest ∙ rw (append_assoc (take at batch) bs cs)
 
--- bytes behind one that was stored
-pub stored_on : (batch : List ℕ) (at b : ℕ) (bs : List ℕ) → at + 1 + length bs ≤ length batch → pasted (set batch at b) (at + 1) bs ≡ pasted batch at (b ∷ bs)
-stored_on batch at b bs fits = ap (λ l. pasted l (at + 1) bs) (stored batch at b [] (omega arith)) ∙ pasted_on batch at (b ∷ []) (omega arith) (at + 1) bs refl
+-- bytes copied to a part
+pub copied : (batch part bytes : List ℕ) (at n : ℕ) → part ≡ bytes → length bytes ≡ n → put_mid at (at + n - at) batch part ≡ pasted batch at bytes
+copied batch part bytes at n e l = put_mid-paste at (at + n - at) batch part bytes (length bytes) e (omega arith) refl ∙ rw (take_all (length bytes) bytes (omega arith))
 
 -- no bytes
 pub pasted_none : (batch : List ℕ) (at : ℕ) → batch ≡ pasted batch at []
 pasted_none batch at = paste-zero batch at []
-
--- bytes in the place of all
-pub pasted_whole : (batch bs : List ℕ) → length bs ≡ length batch → pasted batch 0 bs ≡ bs
-pasted_whole batch bs e = rw (zero-add, e, drop-length) (append-nil bs)

@@ -1,12 +1,13 @@
 -- Bytes of numbers and words: how many they are, and that they are read again as they were written.
-use mathlib.Core.Path.{◌≡◌, refl, sym, ap, ◌∙◌}
+use mathlib.Core.Path.{◌≡◌, refl, sym, ap, ap₂, ◌∙◌}
 use mathlib.Core.Bool.{true}
 use mathlib.Core.List.{List, [], ◌∷◌, ◌++◌, append_assoc, append-nil}
 use Prim.Native.Nat.{ℕ, zero, suc, ◌+◌, ◌*◌, ◌/◌, ◌%◌, ◌^◌, ◌<◌, ◌≤◌}
-use native.Mathlib.Nat.{pow-suc, div-lt_iff_lt-mul, mod-add-div}
+use native.Mathlib.Nat.{pow-suc, div-lt_iff_lt-mul, div-div-eq-div-mul, mod-add-div}
 use native.Mathlib.Numerals.{add-one}
 use native.Mathlib.Omega.{arith}
 use lib.Dec.{lit<}
+use Rattle.std.specs.Int.{byte_at, bytes_low_first, to_le_bytes, w32, w64}
 use lib.ListN.{length, take, drop, get_or, length-append, length-drop}
 use lib.Seq.{length-take-le, take-suc, take-add, get_or-drop, get_or-take}
 use Rattle.field_base.specs.Words.{all_below}
@@ -24,6 +25,24 @@ pub length-bytes_of : (ws : List ℕ) → length (bytes_of ws) ≡ 8 * length ws
 unfolding bytes_of
 length-bytes_of [] = refl
 length-bytes_of (w ∷ ws) = omega (arith, length-append (little_endian 8 w) (bytes_of ws), length-little_endian 8 w, length-bytes_of ws)
+
+-- bytes as std writes them
+byte_is : (i w : ℕ) → byte_at i w ≡ w / 256 ^ i % 256
+byte_is zero w = omega arith
+byte_is (suc i) w = refl
+
+low_first : (i k w : ℕ) → bytes_low_first i k w ≡ little_endian k (w / 256 ^ i)
+unfolding little_endian
+low_first i zero w = refl
+low_first i (suc k) w =
+    let next : w / 256 ^ suc i ≡ w / 256 ^ i / 256 = rw (pow-suc, div-div-eq-div-mul) in
+    ap₂ ◌∷◌ (byte_is i w) (low_first (suc i) k w ∙ ap (little_endian k) next)
+
+pub four_written : (w : ℕ) → to_le_bytes w32 w ≡ little_endian 4 w
+four_written w = low_first 0 4 w ∙ ap (little_endian 4) (omega arith)
+
+pub eight_written : (w : ℕ) → to_le_bytes w64 w ≡ little_endian 8 w
+eight_written w = low_first 0 8 w ∙ ap (little_endian 8) (omega arith)
 
 -- a number that fits its bytes
 pub number_little_endian : (n w : ℕ) → w < 256 ^ n → number (little_endian n w) ≡ w

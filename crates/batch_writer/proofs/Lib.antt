@@ -4,7 +4,5 @@ mod Putting
 pub mod Parts
 pub mod Lengths
 pub mod Heights
-mod Room
 mod Reaching
-mod Belows
 pub mod Answers

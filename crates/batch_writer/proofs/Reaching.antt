@@ -1,47 +1,38 @@
--- A lent batch that begins with the bytes so far, and is as it was behind them.
-use mathlib.Core.Path.{◌≡◌, refl, ap, ◌∙◌}
+-- A batch that begins with the bytes so far, up to a place.
+use mathlib.Core.Path.{◌≡◌, refl, sym, ap, ◌∙◌}
 use mathlib.Core.List.{List, [], ◌∷◌, ◌++◌}
-use Prim.Native.Nat.{ℕ, ◌+◌, ◌*◌, ◌/◌, ◌%◌, ◌≤◌, ◌<◌}
+use Prim.Native.Nat.{ℕ, ◌+◌, ◌*◌, ◌/◌, ◌%◌, ◌≤◌}
 use native.Mathlib.Omega.{arith}
-use lib.ListN.{length, set, length-append, length-set}
+use lib.ListN.{length, take, set, length-append, length-set}
+use lib.Seq.{take_at, take_all}
 use Rattle.batch_words.specs.Pasted.{pasted}
-use Rattle.batch_words.proofs.Pasting.{stored, pasted_on, pasted_whole}
+use Rattle.batch_words.proofs.Pasting.{stored}
 use Rattle.batch_commands.specs.Format.{width, laid_out}
 use Rattle.batch_writer.specs.Layout.{commands_with}
 use Rattle.batch_writer.proofs.Laying.{length-laid}
 
--- the place `at` is past n bytes
-pub record Reached (batch₀ batch : List ℕ) (at n : ℕ) (bytes : List ℕ) : Type 0 where
-  pub same_length : length batch ≡ length batch₀
-  pub place : at ≡ n
-  pub long : length bytes ≡ n
-  pub holds : batch ≡ pasted batch₀ 0 bytes
+-- the place `at` is past the bytes
+pub record Begins (batch : List ℕ) (at : ℕ) (bytes : List ℕ) : Type 0 where
+  pub long : length bytes ≡ at
+  pub holds : take at batch ≡ bytes
 
-module _ {batch₀ batch : List ℕ} {at n : ℕ} {bytes : List ℕ} (r : Reached batch₀ batch at n bytes) where
-  pub on : (more batch' : List ℕ) (at' m : ℕ) → n + m ≤ length batch₀ → length more ≡ m → length batch' ≡ length batch → at' ≡ at + m → batch' ≡ pasted batch at more → Reached batch₀ batch' at' (n + m) (bytes ++ more)
-  on more batch' at' m fits e l p h =
-      record {
-        same_length = l ∙ r.same_length;
-        place = p ∙ ap (λ k. k + m) r.place;
-        long = length-append bytes more ∙ omega (arith, r.long);
-        holds = h ∙ ap (λ b. pasted b at more) r.holds ∙ pasted_on batch₀ 0 bytes (omega (arith, r.long)) at more (omega (arith, r.place, r.long));
-      }
+pub nothing : (batch : List ℕ) → Begins batch 0 []
+nothing batch = record { long = refl; holds = refl }
 
-  -- commands of one kind
-  pub on_kind : (k code : ℕ) (ws batch' : List ℕ) (at' : ℕ) → width code % 8 ≡ 0 → k * (width code / 8) ≤ length ws → n + k * (1 + width code) ≤ length batch₀
-      → length batch' ≡ length batch → at' ≡ at + k * (1 + width code) → batch' ≡ pasted batch at (laid_out (commands_with k code ws))
-      → Reached batch₀ batch' at' (n + k * (1 + width code)) (bytes ++ laid_out (commands_with k code ws))
-  on_kind k code ws batch' at' whole enough fits l p h = on (laid_out (commands_with k code ws)) batch' at' (k * (1 + width code)) fits (length-laid k code ws whole enough) l p h
+module _ {batch : List ℕ} {at : ℕ} {bytes : List ℕ} (b : Begins batch at bytes) where
+  pub on : (more batch' : List ℕ) (at' : ℕ) → at' ≡ at + length more → batch' ≡ pasted batch at more → Begins batch' at' (bytes ++ more)
+  on more batch' at' place is =
+      let long : length (bytes ++ more) ≡ at' = omega (arith, length-append bytes more, b.long) in
+      record { long = long; holds = rw (is, b.holds) (take_at (bytes ++ more) _ at' long) }
 
-  pub has_room : (m : ℕ) → n + m ≤ length batch₀ → at + m ≤ length batch
-  has_room m h = omega (arith, r.place, r.same_length)
-
-  pub last_room : n + 1 ≡ length batch₀ → at < length batch
-  last_room h = omega (arith, r.place, r.same_length)
+  -- n commands of one kind, which are k
+  pub on_kind : (k n code : ℕ) (ws batch' : List ℕ) (at' : ℕ) → n ≡ k → width code % 8 ≡ 0 → k * (width code / 8) ≤ length ws
+      → at' ≡ at + n * (1 + width code) → batch' ≡ pasted batch at (laid_out (commands_with n code ws)) → Begins batch' at' (bytes ++ laid_out (commands_with k code ws))
+  on_kind k n code ws batch' at' e whole enough place is =
+      on (laid_out (commands_with k code ws)) batch' at' (place ∙ ap (λ j. at + j * (1 + width code)) e ∙ sym (ap (◌+◌ at) (length-laid k code ws whole enough))) (is ∙ ap (λ j. pasted batch at (laid_out (commands_with j code ws))) e)
 
   -- the last byte
-  pub ends : (b : ℕ) → n + 1 ≡ length batch₀ → set batch at b ≡ bytes ++ (b ∷ [])
-  ends b all =
-      let fits : at + 1 ≤ length batch = omega (arith, r.place, r.same_length) in
-      let r' = on (b ∷ []) (set batch at b) (at + 1) 1 (omega arith) refl (length-set batch at b) refl (stored batch at b [] fits) in
-      r'.holds ∙ pasted_whole batch₀ (bytes ++ (b ∷ [])) (r'.long ∙ all)
+  pub ends : (last : ℕ) → length batch ≡ at + 1 → set batch at last ≡ bytes ++ (last ∷ [])
+  ends last whole =
+      let last_on = on (last ∷ []) (set batch at last) (at + 1) refl (stored batch at last [] (omega arith)) in
+      sym (take_all (at + 1) (set batch at last) (omega (arith, length-set batch at last))) ∙ last_on.holds

@@ -1,5 +1,6 @@
 -- What a batch holds.
 use Rattle.std.specs.Prelude.{List, ℕ}
+use Rattle.batch_writer.specs.declared.Lists.{Lists}
 
 pub record Contents : Type 0 where
   pub trace : List ℕ
@@ -26,3 +27,8 @@ contents_of trace op_stack ram jump_stack sampled digest input output log2_heigh
       output = output;
       log2_height = log2_height;
     }
+
+-- and of the lists that the writer hands on
+abbrev pub contents_in : Lists → ℕ → Contents
+contents_in lists log2_height =
+    contents_of lists.trace.now lists.op_stack.now lists.ram.now lists.jump_stack.now lists.sampled.now lists.digest.now lists.input.now lists.output.now log2_height

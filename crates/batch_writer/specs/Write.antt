@@ -1,8 +1,7 @@
 -- Write: the answer, and what the lent batch holds then. "The writer is told which form to write."
-use Rattle.std.specs.Prelude.{Bool, not, ◌&&◌, List, [], ◌∷◌, ℕ, eqb, leb, length}
+use Rattle.std.specs.Prelude.{Bool, not, ◌&&◌, List, [], ◌∷◌, ℕ, eqb, leb, length, Result}
 use Rattle.field_base.specs.Words.{all_below}
 use Rattle.refusal.specs.Tests.{on_done, Tests, ◌when◌, ◌unless◌, first}
-use Rattle.refusal.specs.declared.Answer.{Answer}
 use Rattle.refusal.specs.declared.Refusal.TheVariants.{SliceLength, RowCount, HeightOutOfRange, WordNotBelowP}
 use Rattle.air.specs.ChallengeId.{SAMPLED-WORDS, DIGEST-WORDS}
 use Rattle.table_rows.specs.Rows.{whole_rows, rows}
@@ -11,6 +10,7 @@ use Rattle.batch_commands.specs.Fault.{wrong_height}
 use Rattle.field_montgomery.specs.declared.Form.{Form}
 use Rattle.batch_writer.specs.Contents.{Contents}
 use Rattle.batch_writer.specs.Layout.{batch_of}
+use Rattle.refusal.specs.declared.Refusal.{Refusal}
 
 -- "a slice of wrong length (a list past its count, an output not of the batch's length)"
 unfoldable pub right_lengths : Form → Contents → ℕ → Bool
@@ -50,7 +50,7 @@ write_tests form contents batch =
     ∷ (WordNotBelowP unless all_words_below contents)
     ∷ []
 
-unfoldable pub write_answer : Form → Contents → ℕ → Answer
+unfoldable pub write_answer : Form → Contents → ℕ → Result (Unit {0}) Refusal
 unfolding right_lengths
 write_answer form contents batch = first (write_tests form contents batch)
 

@@ -2,7 +2,7 @@
 #![tactic(auto)]
 
 ghost use Rattle.std.specs.Prelude.{◌≡◌, length};
-ghost use Rattle.batch_writer.specs.Contents.{contents_of};
+ghost use Rattle.batch_writer.specs.Contents.{contents_of, contents_in};
 ghost use Rattle.batch_writer.specs.Write.{all_words_below, refused_height, write_answer, write_batch};
 
 use air::MainIndex;
@@ -10,56 +10,42 @@ use batch_commands::{MAX_ROWS, wrong_height};
 use batch_lengths::right_lengths;
 use field_base::all_below;
 use field_montgomery::Form;
-use refusal::{Answer, Refusal};
+use refusal::Refusal;
 use unchecked::put_batch;
 
 mod unchecked;
 
-// Of the lists; k is no word.
-fn all_words_below(
-    trace: &[u64],
-    op_stack: &[u64],
-    ram: &[u64],
-    jump_stack: &[u64],
-    sampled: &[u64],
-    digest: &[u64],
-    input: &[u64],
-    output: &[u64],
-) -> bool
-    ensures { result ≡ all_words_below (contents_of trace.now op_stack.now ram.now jump_stack.now sampled.now digest.now input.now output.now 0) }
+// What a batch holds but for k.
+#[derive(Clone, Copy)]
+pub(crate) struct Lists<'a> {
+    pub(crate) trace: &'a [u64],
+    pub(crate) op_stack: &'a [u64],
+    pub(crate) ram: &'a [u64],
+    pub(crate) jump_stack: &'a [u64],
+    pub(crate) sampled: &'a [u64],
+    pub(crate) digest: &'a [u64],
+    pub(crate) input: &'a [u64],
+    pub(crate) output: &'a [u64],
+}
+
+fn all_words_below(lists: Lists) -> bool
+    ensures { result ≡ all_words_below (contents_in lists.entry 0) }
 {
-    if !all_below(trace) {
-        return false;
-    }
-    if !all_below(op_stack) {
-        return false;
-    }
-    if !all_below(ram) {
-        return false;
-    }
-    if !all_below(jump_stack) {
-        return false;
-    }
-    if !all_below(sampled) {
-        return false;
-    }
-    if !all_below(digest) {
-        return false;
-    }
-    if !all_below(input) {
-        return false;
-    }
-    all_below(output)
+    all_below(lists.trace)
+        && all_below(lists.op_stack)
+        && all_below(lists.ram)
+        && all_below(lists.jump_stack)
+        && all_below(lists.sampled)
+        && all_below(lists.digest)
+        && all_below(lists.input)
+        && all_below(lists.output)
 }
 
 // Whether k is neither 0 nor the height of a table with these rows.
 fn refused_height(rows: usize, log2_height: usize) -> bool
     ensures { result ≡ refused_height rows log2_height }
 {
-    if log2_height == 0 {
-        return false;
-    }
-    wrong_height(rows, log2_height)
+    log2_height != 0 && wrong_height(rows, log2_height)
 }
 
 // Writes the batch of these contents, its rows in the form and without 0B for k 0, or nothing where it refuses.
@@ -75,7 +61,7 @@ pub fn write(
     form: Form,
     log2_height: usize,
     batch: &mut [u8],
-) -> Answer
+) -> Result<(), Refusal>
     ensures answer { result ≡ write_answer form (contents_of trace.now op_stack.now ram.now jump_stack.now sampled.now digest.now input.now output.now log2_height) (length batch.old) }
     ensures batch { batch.new ≡ write_batch form (contents_of trace.now op_stack.now ram.now jump_stack.now sampled.now digest.now input.now output.now log2_height) batch.old }
 {
@@ -91,24 +77,16 @@ pub fn write(
         log2_height,
         batch.len(),
     ) {
-        return Answer::Refused(Refusal::SliceLength);
+        return Err(Refusal::SliceLength);
     }
     let rows = trace.len() / MainIndex::COUNT;
-    if rows < 1 {
-        return Answer::Refused(Refusal::RowCount);
-    }
-    if MAX_ROWS < rows {
-        return Answer::Refused(Refusal::RowCount);
+    if !(1..=MAX_ROWS).contains(&rows) {
+        return Err(Refusal::RowCount);
     }
     if refused_height(rows, log2_height) {
-        return Answer::Refused(Refusal::HeightOutOfRange);
+        return Err(Refusal::HeightOutOfRange);
     }
-    if !all_words_below(
-        trace, op_stack, ram, jump_stack, sampled, digest, input, output,
-    ) {
-        return Answer::Refused(Refusal::WordNotBelowP);
-    }
-    put_batch(
+    let lists = Lists {
         trace,
         op_stack,
         ram,
@@ -117,9 +95,10 @@ pub fn write(
         digest,
         input,
         output,
-        form,
-        log2_height,
-        batch,
-    );
-    Answer::Done
+    };
+    if !all_words_below(lists) {
+        return Err(Refusal::WordNotBelowP);
+    }
+    put_batch(lists, form, log2_height, batch);
+    Ok(())
 }

@@ -1,14 +1,14 @@
 -- The record of 63 challenges: the sampled ones, and four that are derived from them and from the claim.
-use Rattle.std.specs.Prelude.{Bool, not, ◌&&◌, List, [], ◌∷◌, ◌++◌, map, ℕ, ◌*◌, eqb, length}
+use Rattle.std.specs.Prelude.{Bool, not, ◌&&◌, List, [], ◌∷◌, ◌++◌, map, ℕ, ◌*◌, eqb, length, Result}
 use Rattle.field_base.specs.Words.{all_below}
 use Rattle.field.specs.Element.{element_at, words_of, lift}
 use Rattle.field.specs.declared.XFieldElement.{XFieldElement}
 use Rattle.refusal.specs.Tests.{on_done, is_long, Tests, ◌unless◌, first}
-use Rattle.refusal.specs.declared.Answer.{Answer}
 use Rattle.refusal.specs.declared.Refusal.TheVariants.{SliceLength, WordNotBelowP}
 use Rattle.air.specs.ChallengeId.{COMPRESS-PROGRAM-DIGEST-INDETERMINATE, STANDARD-INPUT-INDETERMINATE, STANDARD-OUTPUT-INDETERMINATE, LOOKUP-TABLE-PUBLIC-INDETERMINATE, RECORD-WORDS, SAMPLED-WORDS, DIGEST-WORDS}
 use Rattle.cross_table_argument.specs.CrossTable.{evaluation_argument}
 use Rattle.tip5.specs.LookupTable.{lookup_table}
+use Rattle.refusal.specs.declared.Refusal.{Refusal}
 
 -- the challenge at a place of the record
 abbrev pub challenge_at : List ℕ → ℕ → XFieldElement
@@ -40,7 +40,7 @@ abbrev pub challenges_tests : List ℕ → List ℕ → List ℕ → List ℕ �
 challenges_tests sampled digest input output lent =
     (SliceLength unless right_lengths sampled digest input output lent) ∷ (WordNotBelowP unless all_words_below sampled digest input output) ∷ []
 
-unfoldable pub challenges_answer : List ℕ → List ℕ → List ℕ → List ℕ → List ℕ → Answer
+unfoldable pub challenges_answer : List ℕ → List ℕ → List ℕ → List ℕ → List ℕ → Result (Unit {0}) Refusal
 challenges_answer sampled digest input output lent = first (challenges_tests sampled digest input output lent)
 
 -- what the record that was lent holds then

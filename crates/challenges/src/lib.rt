@@ -11,7 +11,7 @@ ghost use Rattle.challenges.specs.Derived.{terminal, right_lengths, all_words_be
 use air::{ChallengeId, DIGEST_WORDS, RECORD_WORDS, SAMPLED_WORDS};
 use cross_table_argument::unchecked::compute_terminal;
 use field::XFieldElement;
-use refusal::{Answer, MAX_LEN, Refusal};
+use refusal::{MAX_LEN, Refusal};
 
 // The record itself lies in a slice that the caller lends.
 #[derive(Clone, Copy)]
@@ -23,24 +23,25 @@ impl Challenges {
     pub const SAMPLE_COUNT: usize = Challenges::COUNT - ChallengeId::NUM_DERIVED_CHALLENGES;
 
     // Writes the record, or nothing where it refuses.
+    #[tactic(auto, unfolding(crate::specs::Derived::challenges_answer, crate::specs::Derived::challenges_record))]
     pub fn new(
         sampled: &[u64],
         digest: &[u64],
         input: &[u64],
         output: &[u64],
         lent: &mut [u64],
-    ) -> Answer
+    ) -> Result<(), Refusal>
         ensures answer { result ≡ challenges_answer sampled.now digest.now input.now output.now lent.old }
         ensures written { lent.new ≡ challenges_record sampled.now digest.now input.now output.now lent.old }
     {
         if !right_lengths(sampled, digest, input, output, lent) {
-            return Answer::Refused(Refusal::SliceLength);
+            return Err(Refusal::SliceLength);
         }
         if !all_words_below(sampled, digest, input, output) {
-            return Answer::Refused(Refusal::WordNotBelowP);
+            return Err(Refusal::WordNotBelowP);
         }
         derive(sampled, digest, input, output, lent);
-        Answer::Done
+        Ok(())
     }
 }
 
@@ -53,39 +54,23 @@ fn right_lengths(
 ) -> bool
     ensures { result ≡ right_lengths sampled.now digest.now input.now output.now lent.now }
 {
-    if sampled.len() != SAMPLED_WORDS {
-        return false;
-    }
-    if digest.len() != DIGEST_WORDS {
-        return false;
-    }
-    if MAX_LEN < input.len() {
-        return false;
-    }
-    if MAX_LEN < output.len() {
-        return false;
-    }
-    if lent.len() != RECORD_WORDS {
-        return false;
-    }
-    true
+    sampled.len() == SAMPLED_WORDS
+        && digest.len() == DIGEST_WORDS
+        && input.len() <= MAX_LEN
+        && output.len() <= MAX_LEN
+        && lent.len() == RECORD_WORDS
 }
 
 fn all_words_below(sampled: &[u64], digest: &[u64], input: &[u64], output: &[u64]) -> bool
     ensures { result ≡ all_words_below sampled.now digest.now input.now output.now }
 {
-    if !field_base::all_below(sampled) {
-        return false;
-    }
-    if !field_base::all_below(digest) {
-        return false;
-    }
-    if !field_base::all_below(input) {
-        return false;
-    }
-    field_base::all_below(output)
+    field_base::all_below(sampled)
+        && field_base::all_below(digest)
+        && field_base::all_below(input)
+        && field_base::all_below(output)
 }
 
+#[tactic(auto, using(tip5::proofs::Table::table_below), unfolding(crate::specs::Derived::derived_record))]
 fn derive(sampled: &[u64], digest: &[u64], input: &[u64], output: &[u64], lent: &mut [u64])
     requires sampled_len { (length sampled.now ≡ SAMPLED-WORDS) × (length lent.old ≡ RECORD-WORDS) }
     requires digest_value { (all_below digest.now ≡ true) × (all_below input.now ≡ true) × (all_below output.now ≡ true) }
@@ -114,6 +99,7 @@ fn derive(sampled: &[u64], digest: &[u64], input: &[u64], output: &[u64], lent: 
 }
 
 // The terminal of the words under a sampled challenge.
+#[tactic(auto, unfolding(crate::specs::Derived::terminal))]
 fn terminal(sampled: &[u64], id: ChallengeId, words: &[u64]) -> XFieldElement
     requires id_in_bounds { id.0 * 3 + 3 ≤ length sampled.now }
     requires words_value { all_below words.now ≡ true }
@@ -134,22 +120,11 @@ fn write_record(
     requires { (length sampled.now ≡ SAMPLED-WORDS) × (length lent.old ≡ RECORD-WORDS) }
     ensures { lent.new ≡ sampled.now ++ words_of input ++ words_of output ++ words_of lookup ++ words_of digest }
 {
-    copy(sampled, lent);
+    lent[..sampled.len()].copy_from_slice(sampled);
     put_challenge(lent, ChallengeId::STANDARD_INPUT_TERMINAL, input);
     put_challenge(lent, ChallengeId::STANDARD_OUTPUT_TERMINAL, output);
     put_challenge(lent, ChallengeId::LOOKUP_TABLE_PUBLIC_TERMINAL, lookup);
     put_challenge(lent, ChallengeId::COMPRESSED_PROGRAM_DIGEST, digest);
-}
-
-fn copy(from: &[u64], to: &mut [u64])
-    requires { length from.now ≤ length to.old }
-    ensures { to.new ≡ from.now ++ drop (length from.now) to.old }
-{
-    let mut i: usize = 0;
-    while i < from.len() {
-        to[i] = from[i];
-        i += 1;
-    }
 }
 
 fn put_challenge(lent: &mut [u64], id: ChallengeId, challenge: XFieldElement)

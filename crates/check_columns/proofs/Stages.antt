@@ -7,6 +7,7 @@ use native.Mathlib.Omega.{arith}
 use lib.ListN.{length}
 use borrow.Author.Tests.{not-false}
 use Rattle.refusal.specs.Tests.{NoneHolds}
+use Rattle.refusal.specs.declared.Refusal.{Refusal}
 use Rattle.refusal.proofs.First.{past_all}
 use Rattle.field_base.specs.Words.{all_below}
 use Rattle.field_base.proofs.Below.{and-true}
@@ -15,19 +16,19 @@ use Rattle.column_entries.specs.Denominators.{zero_denominator}
 use Rattle.extend_answer.specs.Answer.{right_lengths}
 use Rattle.extend_answer.proofs.Accepted.{lengths}
 use Rattle.check_relations.specs.First.{verdict}
-use Rattle.check_relations.specs.declared.Verdict.{Verdict}
 use Rattle.check_columns.specs.Check.{check_tests, check_answer}
-use Rattle.check_columns.specs.declared.CheckAnswer.TheVariants.{Checked, Refused}
+use Rattle.std.specs.Prelude.{Result, Ok, Err, Option}
+use Rattle.check_relations.specs.declared.Place.{Place}
 
 pub record Passed (main challenges offered : List ℕ) : Type 0 where
   pub offered_length : length offered ≡ rows main * 33
   pub offered_below : all_below offered ≡ true
   pub no_zero : zero_denominator main challenges ≡ false
 
-module _ (main challenges offered : List ℕ) {v : Verdict} (checked : check_answer main challenges offered ≡ Checked v) where
-  tests : NoneHolds (check_tests main challenges offered) × (Checked (verdict challenges main offered) ≡ Checked v)
+module _ (main challenges offered : List ℕ) {v : Option Place} (checked : check_answer main challenges offered ≡ Ok v) where
+  tests : NoneHolds (check_tests main challenges offered) × (let here : Result (Option Place) Refusal = Ok (verdict challenges main offered) in here ≡ Ok v)
   unfolding check_answer
-  tests = past_all Refused (check_tests main challenges offered) (Checked (verdict challenges main offered)) (Checked v) (λ r e. let z : ◌≡◌ {A = ℕ} 0 1 = cc in omega arith) checked
+  tests = past_all Err (check_tests main challenges offered) (Ok (verdict challenges main offered)) (Ok v) (λ r e. let z : ◌≡◌ {A = ℕ} 0 1 = cc in omega arith) checked
 
   pub passed : Passed main challenges offered
   passed =

@@ -2,5 +2,5 @@
 pub mod Exact
 pub mod First
 pub mod Rows
-pub mod Place
+pub mod FirstPlace
 pub mod Cells

@@ -1,40 +1,33 @@
 // The local relations of columns that were made elsewhere.
 #![tactic(auto)]
 
-ghost use Rattle.std.specs.Prelude.{◌≡◌, cond};
-ghost use Rattle.field.specs.Element.{same};
-ghost use Rattle.check_relations.specs.declared.Verdict.TheVariants.{No};
+ghost use Rattle.std.specs.Prelude.{◌≡◌, not, option_map, position};
+ghost use Rattle.check_relations.specs.First.{place};
 
 use air::AuxIndex;
-use field::XFieldElement;
 
 pub mod unchecked;
 
-// Whether all relations hold; if not, the row and the column where one fails first.
+// Where a relation fails.
 #[derive(Clone, Copy)]
-pub enum Verdict {
-    Yes,
-    No(usize, AuxIndex),
+pub struct Place {
+    pub row: usize,
+    pub column: AuxIndex,
 }
 
-fn is_same(a: XFieldElement, b: XFieldElement) -> bool
-    ensures { result ≡ same a b }
+fn first_false(held: &[bool]) -> Option<usize>
+    ensures { result ≡ position not held.now }
 {
-    (a.c0 == b.c0) & ((a.c1 == b.c1) & (a.c2 == b.c2))
+    held.iter().position(|held| !*held)
 }
 
-// Row r fails in this column unless the cell is the expected one.
-fn unless_same(
-    cell: XFieldElement,
-    expected: XFieldElement,
-    r: usize,
-    column: AuxIndex,
-    follows: Verdict,
-) -> Verdict
-    ensures { result ≡ cond (same cell expected) follows (No r column) }
+// Row r's place where it fails first, by whether each column's relation holds.
+fn first_to_fail(held: [bool; AuxIndex::COUNT], r: usize) -> Option<Place>
+    ensures { result ≡ option_map (λ k. place r (record { 0 = k })) (position not held) }
 {
-    if is_same(cell, expected) {
-        return follows;
-    }
-    Verdict::No(r, column)
+    let column = first_false(&held)?;
+    Some(Place {
+        row: r,
+        column: AuxIndex(column),
+    })
 }

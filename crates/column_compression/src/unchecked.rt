@@ -5,7 +5,8 @@ ghost use Rattle.column_entries.specs.Row.{words_from, is_padding, instruction_o
 
 use air::MainIndex;
 use air::unchecked::word_at;
-use isa_decoding::Decoded;
+use isa::Instruction;
+use isa_decoding::Undecodable;
 
 // `n` words, from a column on.
 pub fn words_from(row: &[u64], column: MainIndex, n: usize) -> &[u64]
@@ -25,7 +26,7 @@ pub fn is_padding(row: &[u64]) -> bool
     word_at(row, MainIndex::IS_PADDING) == 1
 }
 
-pub fn instruction_from_row(row: &[u64]) -> Decoded
+pub fn instruction_from_row(row: &[u64]) -> Result<Instruction, Undecodable>
     requires { length row.now ≡ MAIN-WIDTH }
     ensures { result ≡ instruction_of row.now }
 {

@@ -4,5 +4,3 @@ pub mod Absorbing
 pub mod Products
 pub mod Fractions
 pub mod AuxRow
-pub mod Unread
-pub mod Others

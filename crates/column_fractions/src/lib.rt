@@ -5,7 +5,7 @@ ghost use Rattle.std.specs.Prelude.{◌≡◌};
 ghost use Rattle.field.specs.Element.{Canonical, lift};
 ghost use Rattle.column_entries.specs.Row.{weigh};
 
-use column_compression::compress3;
+use column_compression::compress;
 use field::XFieldElement;
 
 pub mod unchecked;
@@ -21,8 +21,9 @@ pub fn lift(word: u64) -> XFieldElement
 }
 
 // Without a result the last weight is left out.
+#[tactic(auto, using(crate::proofs::Weigh::operands))]
 pub fn compress_operands(weights: [XFieldElement; 4], words: [u64; 3]) -> XFieldElement
     ensures { (result ≡ weigh weights words) × Canonical result }
 {
-    compress3([weights[0], weights[1], weights[2]], words)
+    compress([weights[0], weights[1], weights[2]], words)
 }

@@ -7,7 +7,7 @@ ghost use Rattle.column_entries.specs.Row.{weigh};
 ghost use Rattle.column_entries.specs.Contribution.{sum_of_fractions, no_fraction};
 
 use crate::{compress_operands, lift};
-use column_compression::compress4;
+use column_compression::compress;
 use column_entries::RowFraction;
 use field::XFieldElement;
 use field::reducing::element_mul;
@@ -19,6 +19,7 @@ pub const NO_FRACTION: RowFraction = RowFraction {
 };
 
 // The row's only fraction: with nothing before it, no product is needed.
+#[tactic(auto, using(crate::proofs::Single::single))]
 pub fn fraction(numerator: u64, symbol: XFieldElement, indeterminate: XFieldElement) -> RowFraction
     requires numerator_lt_p { numerator < p }
     requires canonical { Canonical symbol }
@@ -32,6 +33,7 @@ pub fn fraction(numerator: u64, symbol: XFieldElement, indeterminate: XFieldElem
 }
 
 // Both fractions of a row, each with numerator 1.
+#[tactic(auto, using(crate::proofs::Single::double, field::proofs::Laws::difference_canonical))]
 pub fn two_fractions(
     first: XFieldElement,
     second: XFieldElement,
@@ -59,7 +61,7 @@ pub fn lookup_fraction(
     requires { Canonical indeterminate }
     ensures { result ≡ sum_of_fractions indeterminate no_fraction (one_over (weigh weights words) ∷ []) }
 {
-    fraction(1, compress4(weights, words), indeterminate)
+    fraction(1, compress(weights, words), indeterminate)
 }
 
 // A lookup that has no result.

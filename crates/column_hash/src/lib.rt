@@ -9,14 +9,11 @@ use isa::opcodes;
 
 pub mod unchecked;
 
-fn is_merkle_step(ci: u64) -> bool
-    ensures { result ≡ is_merkle_step ci }
-{
-    ci == opcodes::MERKLE_STEP || ci == opcodes::MERKLE_STEP_MEM
-}
-
 pub fn is_hashing(ci: u64) -> bool
     ensures { result ≡ eqb ci HASH || is_merkle_step ci }
 {
-    ci == opcodes::HASH || is_merkle_step(ci)
+    matches!(
+        ci,
+        opcodes::HASH | opcodes::MERKLE_STEP | opcodes::MERKLE_STEP_MEM
+    )
 }

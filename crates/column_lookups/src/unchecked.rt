@@ -7,13 +7,14 @@ ghost use Rattle.column_entries.specs.Contribution.{sum_of_fractions, no_fractio
 
 use air::MainIndex;
 use air::unchecked::word_at;
-use column_compression::compress3;
+use column_compression::compress;
 use column_compression::unchecked::is_padding;
 use column_entries::RowFraction;
 use column_fractions::lift;
 use column_fractions::unchecked::{NO_FRACTION, fraction};
 use field::XFieldElement;
 
+#[tactic(auto, unfolding(column_entries::specs::Entries::instruction_entries, column_entries::specs::Contribution::sum_of_fractions))]
 pub fn fraction_for_instruction_lookup(
     window: [[u64; MainIndex::COUNT]; 2],
     weights: [XFieldElement; 3],
@@ -31,9 +32,10 @@ pub fn fraction_for_instruction_lookup(
         word_at(row, MainIndex::CI),
         word_at(row, MainIndex::NIA),
     ];
-    fraction(1, compress3(weights, words), indeterminate)
+    fraction(1, compress(weights, words), indeterminate)
 }
 
+#[tactic(auto, using(field_base::proofs::Below::word_below, field::proofs::Units::lift_canonical), unfolding(column_entries::specs::Entries::clock_entries, column_entries::specs::Contribution::sum_of_fractions))]
 pub fn fraction_for_clock_jump_difference_lookup(
     window: [[u64; MainIndex::COUNT]; 2],
     indeterminate: XFieldElement,

@@ -17,6 +17,7 @@ use isa::Instruction;
 pub mod unchecked;
 
 // A state that was read from memory: four words are on the current stack, six in the previous helper variables.
+#[tactic(auto, using(column_states::proofs::Weighing::weigh_first))]
 fn weigh_memory(
     previous: [u64; MainIndex::COUNT],
     current: [u64; MainIndex::COUNT],
@@ -26,6 +27,6 @@ fn weigh_memory(
 {
     let stack = words_from(&current, MainIndex::ST1, 4);
     let helper = words_from(&previous, MainIndex::HV0, 6);
-    let state = weigh_both(stack, helper, weights);
+    let state = weigh_both(stack, helper, weights, 1);
     weigh_opcode(Instruction::SpongeAbsorb, state, weights)
 }

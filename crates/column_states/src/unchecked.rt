@@ -7,57 +7,37 @@ ghost use Rattle.isa.specs.Instruction.{opcode_of};
 ghost use Rattle.column_entries.specs.Row.{weigh};
 ghost use Rattle.column_entries.specs.Contribution.{absorbing, identity_map};
 
+use column_compression::{NO_WORDS, weigh_words};
 use column_maps::unchecked::absorb_entry;
 use field::XFieldElement;
 use field::unchecked::{Weighed, settle_weighed, weigh_more};
-use field_base::unchecked::{Sum, Total};
 use isa::Instruction;
 use scan_steps::AffineMap;
 
-const NO_SUM: Sum = Sum {
-    upper: Total {
-        carries: 0,
-        word: 0,
-    },
-    lo: 0,
-};
-
-pub const NO_WORDS: Weighed = Weighed {
-    c0: NO_SUM,
-    c1: NO_SUM,
-    c2: NO_SUM,
-};
-
-// The words under the weights from `from` on, beside the words behind them, which are weighed already.
-pub fn weigh(words: &[u64], weights: [XFieldElement; 11], from: usize, behind: Weighed) -> Weighed
-    requires words_bound { from + length words.now ≤ 11 }
-    requires few { Few (11 - (from + length words.now)) behind }
-    ensures { (weighed_of result ≡ sum (weigh (drop from weights) words.now) (weighed_of behind)) × Few (11 - from) result }
+// A run of words under the weights from `from` on.
+pub fn weigh_state<const N: usize>(
+    words: &[u64],
+    weights: [XFieldElement; N],
+    from: usize,
+) -> Weighed
+    requires { (from + length words.now ≤ N) × (N ≤ 11) }
+    ensures { (weighed_of result ≡ weigh (drop from weights.entry) words.now) × Few (N - from) result }
 {
-    let mut sums = behind;
-    let mut i = words.len();
-    while i > 0 {
-        i -= 1;
-        sums = weigh_more(words[i], weights[from + i], sums);
-    }
-    sums
-}
-
-// A run of words under the weights behind the opcode's.
-pub fn weigh_state(words: &[u64], weights: [XFieldElement; 11]) -> Weighed
-    requires { length words.now ≤ 10 }
-    ensures { (weighed_of result ≡ weigh (drop 1 weights) words.now) × Few 10 result }
-{
-    weigh(words, weights, 1, NO_WORDS)
+    weigh_words(words, weights, from, NO_WORDS)
 }
 
 // Two runs, one behind the other.
-pub fn weigh_both<'a>(first: &'a [u64], second: &'a [u64], weights: [XFieldElement; 11]) -> Weighed
-    requires { length first.now + length second.now ≤ 10 }
-    ensures { (weighed_of result ≡ weigh (drop 1 weights) (first.now ++ second.now)) × Few 10 result }
+pub fn weigh_both<'a, const N: usize>(
+    first: &'a [u64],
+    second: &'a [u64],
+    weights: [XFieldElement; N],
+    from: usize,
+) -> Weighed
+    requires { (from + length first.now + length second.now ≤ N) × (N ≤ 11) }
+    ensures { (weighed_of result ≡ weigh (drop from weights.entry) (first.now ++ second.now)) × Few (N - from) result }
 {
-    let behind = weigh(second, weights, 1 + first.len(), NO_WORDS);
-    weigh(first, weights, 1, behind)
+    let behind = weigh_words(second, weights, from + first.len(), NO_WORDS);
+    weigh_words(first, weights, from, behind)
 }
 
 // An opcode under the first weight, beside a state that is weighed already.

@@ -19,19 +19,25 @@ pub fn is_write_io(ci: u64) -> bool
 pub fn is_sponge(ci: u64) -> bool
     ensures { result ≡ is_sponge ci }
 {
-    (ci == opcodes::SPONGE_INIT)
-        | (ci == opcodes::SPONGE_ABSORB)
-        | (ci == opcodes::SPONGE_ABSORB_MEM)
-        | (ci == opcodes::SPONGE_SQUEEZE)
+    matches!(
+        ci,
+        opcodes::SPONGE_INIT
+            | opcodes::SPONGE_ABSORB
+            | opcodes::SPONGE_ABSORB_MEM
+            | opcodes::SPONGE_SQUEEZE
+    )
 }
 
 pub fn is_ram_access(ci: u64) -> bool
     ensures { result ≡ is_ram_access ci }
 {
-    (ci == opcodes::READ_MEM)
-        | (ci == opcodes::WRITE_MEM)
-        | (ci == opcodes::SPONGE_ABSORB_MEM)
-        | (ci == opcodes::MERKLE_STEP_MEM)
-        | (ci == opcodes::XX_DOT_STEP)
-        | (ci == opcodes::XB_DOT_STEP)
+    matches!(
+        ci,
+        opcodes::READ_MEM
+            | opcodes::WRITE_MEM
+            | opcodes::SPONGE_ABSORB_MEM
+            | opcodes::MERKLE_STEP_MEM
+            | opcodes::XX_DOT_STEP
+            | opcodes::XB_DOT_STEP
+    )
 }

@@ -1,2 +1,2 @@
--- Laws of the lookups.
-pub mod U32
+-- The constant's value.
+pub mod Half

@@ -8,7 +8,7 @@ ghost use Rattle.column_entries.specs.Contribution.{sum_of_fractions, no_fractio
 
 use air::MainIndex;
 use air::unchecked::word_at;
-use column_compression::compress4;
+use column_compression::compress;
 use column_entries::RowFraction;
 use column_fractions::compress_operands;
 use column_fractions::unchecked::{NO_FRACTION, lookup_fraction, operands_fraction, two_fractions};
@@ -20,6 +20,7 @@ use isa::opcodes;
 const ONE_HALF: u64 = 9223372034707292161;
 
 // a & b from a ^ b: (a + b - a ^ b) / 2 in the field.
+#[tactic(auto, using(crate::proofs::Half::one_half))]
 fn and_from_xor(a: u64, b: u64, xor: u64) -> u64
     requires { (a < p) × (b < p) × (xor < p) }
     ensures { result ≡ and_of_xor a b xor }
@@ -27,6 +28,7 @@ fn and_from_xor(a: u64, b: u64, xor: u64) -> u64
     mul(sub(add(a, b), xor), ONE_HALF)
 }
 
+#[tactic(auto, using(field_base::proofs::Below::word_below), unfolding(column_entries::specs::Entries::u32_lookups, column_entries::specs::Entries::u32_entries, column_entries::specs::Contribution::sum_of_fractions))]
 pub fn fraction_for_u32_lookup(
     window: [[u64; MainIndex::COUNT]; 2],
     weights: [XFieldElement; 4],
@@ -61,7 +63,7 @@ pub fn fraction_for_u32_lookup(
             lookup_fraction([st0_prev, 0, previous_ci, st0], weights, indeterminate)
         }
         opcodes::DIV_MOD => {
-            let lt_check = compress4(weights, [st0, st1_prev, opcodes::LT, 1]);
+            let lt_check = compress(weights, [st0, st1_prev, opcodes::LT, 1]);
             let range_check = compress_operands(weights, [st0_prev, st1, opcodes::SPLIT]);
             two_fractions(lt_check, range_check, indeterminate)
         }

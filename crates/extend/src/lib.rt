@@ -10,7 +10,7 @@ ghost use Rattle.extend.specs.Extend.{extend_aux, extend_work, strict_aux, stric
 
 use extend_answer::extend_answer;
 use extend_chunks::unchecked::extend_by_chunks;
-use refusal::Answer;
+use refusal::Refusal;
 
 // Writes every cell and leaves zeros in `work`, or writes nothing where it refuses. The cells don't depend on the chunk length.
 pub fn extend(
@@ -19,7 +19,7 @@ pub fn extend(
     chunk: usize,
     aux: &mut [u64],
     work: &mut [u64],
-) -> Answer
+) -> Result<(), Refusal>
     ensures answer { result ≡ extend_answer main.now challenges.now chunk aux.old work.old }
     ensures extended { aux.new ≡ extend_aux main.now challenges.now chunk aux.old work.old }
     ensures cleared { work.new ≡ extend_work main.now challenges.now chunk aux.old work.old }
@@ -34,7 +34,7 @@ pub fn extend_strict(
     chunk: usize,
     aux: &mut [u64],
     work: &mut [u64],
-) -> Answer
+) -> Result<(), Refusal>
     ensures answer { result ≡ strict_answer main.now challenges.now chunk aux.old work.old }
     ensures extended { aux.new ≡ strict_aux main.now challenges.now chunk aux.old work.old }
     ensures cleared { work.new ≡ strict_work main.now challenges.now chunk aux.old work.old }
@@ -49,28 +49,13 @@ fn extended_or_refused(
     chunk: usize,
     aux: &mut [u64],
     work: &mut [u64],
-) -> Answer
+) -> Result<(), Refusal>
     ensures answer { result ≡ answer_in strict main.now challenges.now chunk aux.old work.old }
     ensures extended { aux.new ≡ on_done result (extended main.now challenges.now) aux.old }
     ensures cleared { work.new ≡ on_done result (replicate (length work.old) 0) work.old }
 {
-    let answer = extend_answer(strict, main, challenges, chunk, aux, work);
-    match answer {
-        Answer::Refused(refusal) => Answer::Refused(refusal),
-        Answer::Done => {
-            extend_by_chunks(main, challenges, chunk, aux, work);
-            clear(work);
-            Answer::Done
-        }
-    }
-}
-
-fn clear(work: &mut [u64])
-    ensures { work.new ≡ replicate (length work.old) 0 }
-{
-    let mut i: usize = 0;
-    while i < work.len() {
-        work[i] = 0;
-        i += 1;
-    }
+    extend_answer(strict, main, challenges, chunk, aux, work)?;
+    extend_by_chunks(main, challenges, chunk, aux, work);
+    work.fill(0);
+    Ok(())
 }

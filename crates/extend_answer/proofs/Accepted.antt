@@ -8,7 +8,6 @@ use lib.Dec.{eqb}
 use lib.ListN.{length}
 use borrow.Author.Tests.{leb-true, eqb-true, eqb-false, not-false}
 use Rattle.refusal.specs.Long.{is_long}
-use Rattle.refusal.specs.declared.Answer.TheVariants.{Done}
 use Rattle.field_base.specs.Words.{all_below}
 use Rattle.field_base.proofs.Below.{and-true}
 use Rattle.air.specs.ChallengeId.{RECORD-WORDS}
@@ -18,6 +17,7 @@ use Rattle.refusal.proofs.First.{done_exactly}
 use Rattle.column_entries.specs.Denominators.{zero_denominator}
 use Rattle.column_weights.specs.Ready.{ReadyTable}
 use Rattle.extend_answer.specs.Answer.{right_lengths, extend_tests, extend_answer}
+use Rattle.refusal.specs.Number.{Done}
 
 pub record Lengths (main challenges aux : List ℕ) : Type 0 where
   pub whole : whole_rows main ≡ true

@@ -25,9 +25,6 @@ both_below [] vs = refl
 both_below (u ∷ us) vs = ap (λ b. ltb u p && b) (both_below us vs) ∙ sym (and_assoc (ltb u p) (all_below us) (all_below vs))
 
 module _ (main : List ℕ) (c n : ℕ) where
-  pub from_start : undecodable_from main 0 n ≡ undecodable_from main 0 (n - 0)
-  from_start = let e : n ≡ n - 0 = omega arith in ap (undecodable_from main 0) e
-
   pub row_fails : c < n → is_read (instruction_of (row_at main c)) ≡ false → undecodable_from main c (n - c) ≡ true
   unfolding undecodable_from
   row_fails h r =

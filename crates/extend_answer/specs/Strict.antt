@@ -1,19 +1,18 @@
 -- What strict extension answers. Document 02, Two: "11, strict extension only, some row undecodable, after 2 and before 6."
-use Rattle.std.specs.Prelude.{Bool, true, false, not, ◌&&◌, ◌||◌, List, [], ◌∷◌, ◌++◌, ℕ, zero, suc}
+use Rattle.std.specs.Prelude.{Bool, true, false, not, ◌&&◌, ◌||◌, List, [], ◌∷◌, ◌++◌, ℕ, zero, suc, Result, Ok, Err}
 use Rattle.refusal.specs.Tests.{Test, Tests, ◌when◌, first}
-use Rattle.refusal.specs.declared.Answer.{Answer}
 use Rattle.refusal.specs.declared.Refusal.TheVariants.{UndecodableRow}
-use Rattle.isa_decoding.specs.declared.Decoded.{Decoded}
-use Rattle.isa_decoding.specs.declared.Decoded.TheVariants.{Read, Unknown, Outside}
 use Rattle.table_rows.specs.Rows.{rows, row_at}
 use Rattle.column_entries.specs.Row.{instruction_of}
 use Rattle.column_entries.specs.Denominators.{zero_up_to}
 use Rattle.extend_answer.specs.Answer.{tests_through_two, denominator_test}
+use Rattle.refusal.specs.declared.Refusal.{Refusal}
+use Rattle.isa.specs.declared.Instruction.{Instruction}
+use Rattle.isa_decoding.specs.declared.Undecodable.{Undecodable}
 
-abbrev pub is_read : Decoded → Bool
-is_read (Read i) = true
-is_read Unknown = false
-is_read (Outside c i) = false
+abbrev pub is_read : Result Instruction Undecodable → Bool
+is_read (Ok i) = true
+is_read (Err why) = false
 
 -- one of n rows from row c on does not decode
 unfoldable pub undecodable_from : List ℕ → ℕ → ℕ → Bool
@@ -33,9 +32,9 @@ tests_in strict main challenges chunk aux work =
     tests_through_two main challenges chunk aux work ++ decoding_test strict main ∷ denominator_test main challenges ∷ []
 
 -- strict or not
-abbrev pub answer_in : Bool → List ℕ → List ℕ → ℕ → List ℕ → List ℕ → Answer
+abbrev pub answer_in : Bool → List ℕ → List ℕ → ℕ → List ℕ → List ℕ → Result (Unit {0}) Refusal
 answer_in strict main challenges chunk aux work = first (tests_in strict main challenges chunk aux work)
 
-unfoldable pub strict_answer : List ℕ → List ℕ → ℕ → List ℕ → List ℕ → Answer
+unfoldable pub strict_answer : List ℕ → List ℕ → ℕ → List ℕ → List ℕ → Result (Unit {0}) Refusal
 unfolding undecodable_from zero_up_to
 strict_answer main challenges chunk aux work = answer_in true main challenges chunk aux work

@@ -1,11 +1,11 @@
 // The field of the p^3 elements. A public operation turns away a word that is not below p.
 #![tactic(auto)]
 
-ghost use Rattle.std.specs.Prelude.{◌&&◌, ◌≡◌, [], ◌∷◌};
-ghost use Rattle.field.specs.Element.{canonical, is_zero, zero, one, X};
-ghost use Rattle.field.specs.Answers.{element_add, element_sub, element_mul, element_scale, element_inverse};
+ghost use Rattle.std.specs.Prelude.{◌≡◌, [], ◌∷◌, IfOk};
+ghost use Rattle.field.specs.Element.{canonical, Canonical, is_zero, zero, one, X};
+ghost use Rattle.field.specs.Answers.{checked, element_add, element_sub, element_mul, element_scale, element_inverse};
 
-use field_base::P;
+use field_base::{all_below, below_p};
 use refusal::Refusal;
 
 // The same operations for callers that know their words to be below p; products of any words.
@@ -13,7 +13,7 @@ pub mod reducing;
 pub mod unchecked;
 
 // c0 + c1·X + c2·X² modulo X³ - X + 1.
-#[derive(Clone, Copy)]
+#[derive(Clone, Copy, PartialEq, Eq)]
 pub struct XFieldElement {
     pub c0: u64,
     pub c1: u64,
@@ -47,97 +47,61 @@ impl XFieldElement {
     }
 }
 
-#[derive(Clone, Copy)]
-pub enum ElementAnswer {
-    Element(XFieldElement),
-    Refused(Refusal),
-}
-
 // Whether the three words of an element are below p.
 pub fn is_canonical(e: XFieldElement) -> bool
     ensures { result ≡ canonical e }
 {
-    if P <= e.c0 {
-        return false;
-    }
-    if P <= e.c1 {
-        return false;
-    }
-    if P <= e.c2 {
-        return false;
-    }
-    true
-}
-
-fn both_canonical(a: XFieldElement, b: XFieldElement) -> bool
-    ensures { result ≡ canonical a && canonical b }
-{
-    is_canonical(a) && is_canonical(b)
+    all_below(&[e.c0, e.c1, e.c2])
 }
 
 pub fn is_zero(e: XFieldElement) -> bool
     ensures { result ≡ is_zero e }
 {
-    if e.c0 != 0 {
-        return false;
-    }
-    if e.c1 != 0 {
-        return false;
-    }
-    if e.c2 != 0 {
-        return false;
-    }
-    true
+    e == XFieldElement::ZERO
 }
 
-pub fn element_add(a: XFieldElement, b: XFieldElement) -> ElementAnswer
+// The element itself, unless a word of it is not below p.
+fn checked(e: XFieldElement) -> Result<XFieldElement, Refusal>
+    ensures value { result ≡ checked e }
+    ensures canonical { IfOk result (λ x. Canonical x) }
+{
+    if is_canonical(e) {
+        Ok(e)
+    } else {
+        Err(Refusal::WordNotBelowP)
+    }
+}
+
+pub fn element_add(a: XFieldElement, b: XFieldElement) -> Result<XFieldElement, Refusal>
     ensures { result ≡ element_add a b }
 {
-    if !both_canonical(a, b) {
-        return ElementAnswer::Refused(Refusal::WordNotBelowP);
-    }
-    ElementAnswer::Element(unchecked::element_add(a, b))
+    Ok(unchecked::element_add(checked(a)?, checked(b)?))
 }
 
-pub fn element_sub(a: XFieldElement, b: XFieldElement) -> ElementAnswer
+pub fn element_sub(a: XFieldElement, b: XFieldElement) -> Result<XFieldElement, Refusal>
     ensures { result ≡ element_sub a b }
 {
-    if !both_canonical(a, b) {
-        return ElementAnswer::Refused(Refusal::WordNotBelowP);
-    }
-    ElementAnswer::Element(unchecked::element_sub(a, b))
+    Ok(unchecked::element_sub(checked(a)?, checked(b)?))
 }
 
-pub fn element_mul(a: XFieldElement, b: XFieldElement) -> ElementAnswer
+pub fn element_mul(a: XFieldElement, b: XFieldElement) -> Result<XFieldElement, Refusal>
     ensures { result ≡ element_mul a b }
 {
-    if !both_canonical(a, b) {
-        return ElementAnswer::Refused(Refusal::WordNotBelowP);
-    }
-    ElementAnswer::Element(reducing::element_mul(a, b))
+    Ok(reducing::element_mul(checked(a)?, checked(b)?))
 }
 
 // A base word times an element.
-pub fn element_scale(k: u64, a: XFieldElement) -> ElementAnswer
+pub fn element_scale(k: u64, a: XFieldElement) -> Result<XFieldElement, Refusal>
     ensures { result ≡ element_scale k a }
 {
-    if P <= k {
-        return ElementAnswer::Refused(Refusal::WordNotBelowP);
-    }
-    if !is_canonical(a) {
-        return ElementAnswer::Refused(Refusal::WordNotBelowP);
-    }
-    ElementAnswer::Element(reducing::element_scale(k, a))
+    Ok(reducing::element_scale(below_p(k)?, checked(a)?))
 }
 
-pub fn element_inverse(a: XFieldElement) -> ElementAnswer
+pub fn element_inverse(a: XFieldElement) -> Result<XFieldElement, Refusal>
     ensures { result ≡ element_inverse a }
 {
-    if !is_canonical(a) {
-        return ElementAnswer::Refused(Refusal::WordNotBelowP);
+    if is_zero(checked(a)?) {
+        return Err(Refusal::ZeroDenominator);
     }
-    if is_zero(a) {
-        return ElementAnswer::Refused(Refusal::ZeroDenominator);
-    }
-    ElementAnswer::Element(unchecked::element_inverse(a))
+    Ok(unchecked::element_inverse(a))
 }

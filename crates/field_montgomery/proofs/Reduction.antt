@@ -1,5 +1,5 @@
 -- Montgomery's reduction: q·p ends on the low word of hi·2^64 + lo, so that hi less q·p's high word is the number divided by 2^64.
-use Rattle.std.proofs.Common.{◌≡◌, ℕ, ◌+◌, ◌-◌, ◌*◌, ◌/◌, ◌%◌, ◌<◌, ◌≤◌, sym, ap, ◌∙◌, mod-lt, mod-eq_of_lt, mul_comm, add-mul, mul-le-mul_left, le_of_mul-le-mul_right, arith, lit<}
+use Rattle.std.proofs.Common.{◌≡◌, ℕ, ◌+◌, ◌-◌, ◌*◌, ◌/◌, ◌%◌, ◌<◌, ◌≤◌, sym, ap, ◌∙◌, mod-lt, mod-eq_of_lt, mul_comm, add-mul, arith}
 use Rattle.algebra.specs.Modulus.{p, minus}
 use Rattle.algebra.proofs.Base.{p_positive}
 use Rattle.algebra.proofs.Residues.{mod-mul_mod}
@@ -34,7 +34,7 @@ upper lo q e s = let same = half lo q e s in omega arith
 at_most : (l u q e : ℕ) → u < 4294967296 → q % 4294967296 ≡ l → q / 4294967296 + e * 4294967296 ≡ u + l → e ≤ q - q / 4294967296
 at_most l u q e h same f = omega arith
 
-pub borrows : (lo q e : ℕ) → lo < RADIX → Carried lo q e → e ≤ q - q / 4294967296
+borrows : (lo q e : ℕ) → lo < RADIX → Carried lo q e → e ≤ q - q / 4294967296
 borrows lo q e h s = at_most (lo % 4294967296) (lo / 4294967296) q e (omega arith) (half lo q e s) (upper lo q e s)
 
 ends : (lo q e b u l : ℕ) → b + u + e ≡ q → u * 4294967296 + l ≡ q → q + e * RADIX ≡ lo + l * 4294967296 → q * p ≡ b * RADIX + lo
@@ -55,9 +55,3 @@ divided hi lo b q h e =
     ∙ ap from_montgomery
     (mod-mul_mod (hi + (p - b % p)) RADIX p ∙ rw (mod-eq_of_lt h) (mod-cong p _ _ q RADIX (cleared p RADIX hi (p - b) b q lo (omega arith) e)))
     ∙ from_mod (hi * RADIX + lo)
-
--- a product's high word is at most a factor
-pub high_at_most : (a b hi lo : ℕ) → b < RADIX → hi * RADIX + lo ≡ a * b → hi ≤ a
-high_at_most a b hi lo h e =
-    let below : a * b ≤ a * RADIX = mul-le-mul_left a (omega arith) in
-    le_of_mul-le-mul_right {k = RADIX} (omega arith) (lit< tt)

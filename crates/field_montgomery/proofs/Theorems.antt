@@ -8,12 +8,12 @@ use Rattle.algebra.proofs.Solver.{◌⊕◌, ◌⊗◌, solve, v0, v1, v2}
 use Rattle.refusal.specs.Tests.{◌when◌, ◌unless◌, first_or}
 use Rattle.refusal.specs.declared.Refusal.TheVariants.{WordNotBelowP, ZeroDenominator}
 use Rattle.field_base.specs.Answers.{words_tests, inverse_tests, base_inverse}
-use Rattle.field_base.specs.declared.BaseAnswer.{BaseAnswer}
-use Rattle.field_base.specs.declared.BaseAnswer.TheVariants.{Word, Refused}
 use Rattle.field_montgomery.specs.Form.{RADIX, to_montgomery, from_montgomery, montgomery_product, montgomery_inverse}
 use Rattle.field_montgomery.specs.Answers.{montgomery_inverted}
 use Rattle.field_montgomery.specs.Theorems.{Conversions, through, PlainSeenThrough}
 use Rattle.field_montgomery.proofs.Conversion.{undone, from_mod}
+use Rattle.std.specs.Prelude.{Result, Ok, Err}
+use Rattle.refusal.specs.declared.Refusal.{Refusal}
 
 pub conversions : Conversions
 unfolding to_montgomery from_montgomery
@@ -68,43 +68,43 @@ through_inverse a lo hi =
     ∙ ap to_montgomery (to_inverse a lo hi)
 
 -- an operation on two words, through both conversions
-both : {a b : ℕ} (x : BaseAnswer) → a < p → b < p → first_or Refused (words_tests a b) x ≡ x
+both : {a b : ℕ} (x : Result ℕ Refusal) → a < p → b < p → first_or Err (words_tests a b) x ≡ x
 both {a} {b} x h k = rw (lt-ltb a p h, lt-ltb b p k)
 
 module _ (f g : ℕ → ℕ → ℕ) (e : (a b : ℕ) → f (to_montgomery a) (to_montgomery b) ≡ to_montgomery (g a b)) (below : (a b : ℕ) → g a b < p) where
   to_both : (a b : ℕ) → a < p → b < p
-      → first_or Refused (words_tests (to_montgomery a) (to_montgomery b)) (Word (f (to_montgomery a) (to_montgomery b)))
-      ≡ through to_montgomery (first_or Refused (words_tests a b) (Word (g a b)))
-  to_both a b h k = both _ (conversions.to_below a) (conversions.to_below b) ∙ ap Word (e a b) ∙ sym (ap (through to_montgomery) (both _ h k))
+      → first_or Err (words_tests (to_montgomery a) (to_montgomery b)) (Ok (f (to_montgomery a) (to_montgomery b)))
+      ≡ through to_montgomery (first_or Err (words_tests a b) (Ok (g a b)))
+  to_both a b h k = both _ (conversions.to_below a) (conversions.to_below b) ∙ ap Ok (e a b) ∙ sym (ap (through to_montgomery) (both _ h k))
 
   from_both : (a b : ℕ) → a < p → b < p
-      → through from_montgomery (first_or Refused (words_tests a b) (Word (f a b)))
-      ≡ first_or Refused (words_tests (from_montgomery a) (from_montgomery b)) (Word (g (from_montgomery a) (from_montgomery b)))
+      → through from_montgomery (first_or Err (words_tests a b) (Ok (f a b)))
+      ≡ first_or Err (words_tests (from_montgomery a) (from_montgomery b)) (Ok (g (from_montgomery a) (from_montgomery b)))
   from_both a b h k =
       ap (through from_montgomery) (both _ h k)
-      ∙ ap Word
+      ∙ ap Ok
       (ap₂ (λ (x y : ℕ). from_montgomery (f x y)) (sym (conversions.to_from a h)) (sym (conversions.to_from b k))
       ∙ ap from_montgomery (e (from_montgomery a) (from_montgomery b)) ∙ conversions.from_to _ (below _ _))
       ∙ sym (both _ (conversions.from_below a) (conversions.from_below b))
 
 -- inverses
-inverted : {a : ℕ} (w : ℕ) → a ≢ 0 → a < p → first_or Refused (inverse_tests a) (Word w) ≡ Word w
+inverted : {a : ℕ} (w : ℕ) → a ≢ 0 → a < p → first_or Err (inverse_tests a) (Ok w) ≡ Ok w
 inverted {a} w ne h = rw (lt-ltb a p h, ne_eqb a 0 ne)
 
 inverse_through : (a : ℕ) → a < p → montgomery_inverted (to_montgomery a) ≡ through to_montgomery (base_inverse a)
 unfolding to_montgomery
 inverse_through zero h = refl
 inverse_through (suc a) h =
-    inverted _ (to_nonzero (suc a) (omega arith) h) (conversions.to_below (suc a)) ∙ ap Word (through_inverse (suc a) (omega arith) h)
+    inverted _ (to_nonzero (suc a) (omega arith) h) (conversions.to_below (suc a)) ∙ ap Ok (through_inverse (suc a) (omega arith) h)
     ∙ sym (ap (through to_montgomery) (inverted _ (omega arith) h))
 
 inverse_back : (a : ℕ) → a < p → through from_montgomery (through to_montgomery (base_inverse a)) ≡ base_inverse a
 inverse_back zero h = refl
 inverse_back (suc a) h =
     let e = inverted {a = suc a} (inverse (suc a)) (omega arith) h in
-    ap (λ x. through from_montgomery (through to_montgomery x)) e ∙ ap Word (conversions.from_to _ (base_inverse_below (suc a))) ∙ sym e
+    ap (λ x. through from_montgomery (through to_montgomery x)) e ∙ ap Ok (conversions.from_to _ (base_inverse_below (suc a))) ∙ sym e
 
-refused : (below none : Bool) (w : ℕ) → first_or Refused ((WordNotBelowP unless below) ∷ (ZeroDenominator when none) ∷ []) (Word w) ≡ Refused ZeroDenominator → none ≡ true
+refused : (below none : Bool) (w : ℕ) → first_or Err ((WordNotBelowP unless below) ∷ (ZeroDenominator when none) ∷ []) (Ok w) ≡ Err ZeroDenominator → none ≡ true
 refused true true w e = refl
 refused true false w e = cc
 refused false none w e = cc

@@ -4,7 +4,7 @@
 ghost use Rattle.std.specs.Prelude.{◌≡◌};
 ghost use Rattle.field_montgomery.specs.Answers.{to_answer, from_answer, montgomery_add, montgomery_mul, montgomery_inverted};
 
-use field_base::{BaseAnswer, P};
+use field_base::below_p;
 use refusal::Refusal;
 
 // How a base element is kept: as itself, or in Montgomery form.
@@ -18,50 +18,35 @@ pub enum Form {
 pub mod reducing;
 pub mod unchecked;
 
-pub fn to_montgomery(a: u64) -> BaseAnswer
+pub fn to_montgomery(a: u64) -> Result<u64, Refusal>
     ensures { result ≡ to_answer a }
 {
-    if P <= a {
-        return BaseAnswer::Refused(Refusal::WordNotBelowP);
-    }
-    BaseAnswer::Word(reducing::to_montgomery(a))
+    Ok(reducing::to_montgomery(below_p(a)?))
 }
 
-pub fn from_montgomery(a: u64) -> BaseAnswer
+pub fn from_montgomery(a: u64) -> Result<u64, Refusal>
     ensures { result ≡ from_answer a }
 {
-    if P <= a {
-        return BaseAnswer::Refused(Refusal::WordNotBelowP);
-    }
-    BaseAnswer::Word(reducing::from_montgomery(a))
+    Ok(reducing::from_montgomery(below_p(a)?))
 }
 
-pub fn add(a: u64, b: u64) -> BaseAnswer
+pub fn add(a: u64, b: u64) -> Result<u64, Refusal>
     ensures { result ≡ montgomery_add a b }
 {
     field_base::add(a, b)
 }
 
-pub fn mul(a: u64, b: u64) -> BaseAnswer
+pub fn mul(a: u64, b: u64) -> Result<u64, Refusal>
     ensures { result ≡ montgomery_mul a b }
 {
-    if P <= a {
-        return BaseAnswer::Refused(Refusal::WordNotBelowP);
-    }
-    if P <= b {
-        return BaseAnswer::Refused(Refusal::WordNotBelowP);
-    }
-    BaseAnswer::Word(unchecked::mul(a, b))
+    Ok(unchecked::mul(below_p(a)?, below_p(b)?))
 }
 
-pub fn inverse(a: u64) -> BaseAnswer
+pub fn inverse(a: u64) -> Result<u64, Refusal>
     ensures { result ≡ montgomery_inverted a }
 {
-    if P <= a {
-        return BaseAnswer::Refused(Refusal::WordNotBelowP);
+    if below_p(a)? == 0 {
+        return Err(Refusal::ZeroDenominator);
     }
-    if a == 0 {
-        return BaseAnswer::Refused(Refusal::ZeroDenominator);
-    }
-    BaseAnswer::Word(reducing::inverse(a))
+    Ok(reducing::inverse(a))
 }

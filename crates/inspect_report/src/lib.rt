@@ -11,12 +11,13 @@ ghost use Rattle.inspect_report.specs.Text.{inspect_text};
 use air::{DIGEST_WORDS, MainIndex, SAMPLED_WORDS};
 use batch::TRACE_WORDS;
 use batch_commands::{MAX_DIFFERENCES, MAX_WORDS};
-use batch_reader::OpenAnswer;
+use batch_reader::Counts;
 use inspect_text::unchecked::put_trace;
+use refusal::Refusal;
 use text::unchecked::put_refusal;
 
 // Opens the batch for its trace.
-fn open_trace(batch: &[u8], trace: &mut [u64; TRACE_WORDS]) -> OpenAnswer
+fn open_trace(batch: &[u8], trace: &mut [u64; TRACE_WORDS]) -> Result<Counts, Refusal>
     ensures answer { result ≡ open_answer batch.now TRACE-WORDS MAX-DIFFERENCES MAX-DIFFERENCES MAX-DIFFERENCES SAMPLED-WORDS DIGEST-WORDS MAX-WORDS MAX-WORDS }
     ensures trace { trace.new ≡ open_slice result ROW batch.now trace.old }
     ensures length { length trace.new ≡ TRACE-WORDS }
@@ -42,15 +43,15 @@ fn open_trace(batch: &[u8], trace: &mut [u64; TRACE_WORDS]) -> OpenAnswer
 }
 
 // Writes the text that `inspect` prints to the start of `out`, and answers its length.
+#[tactic(auto, using(batch::proofs::Opened::within_opened), unfolding(crate::specs::Text::inspect_text))]
 pub fn report(batch: &[u8], out: &mut [u8; 4096]) -> usize
     ensures length { (result ≡ length (inspect_text batch.now)) × (result ≤ 4096) }
     ensures text { out.new ≡ sets out.old 0 (inspect_text batch.now) }
 {
     let mut trace = [0u64; TRACE_WORDS];
-    let answer = open_trace(batch, &mut trace);
-    match answer {
-        OpenAnswer::Refused(refusal) => put_refusal(refusal, out),
-        OpenAnswer::Opened(counts) => {
+    match open_trace(batch, &mut trace) {
+        Err(refusal) => put_refusal(refusal, out),
+        Ok(counts) => {
             let end = counts.rows * MainIndex::COUNT;
             put_trace(&trace[..end], out)
         }

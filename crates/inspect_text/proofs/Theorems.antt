@@ -8,21 +8,23 @@ use native.Mathlib.Omega.{arith}
 use lib.Dec.{ltb}
 use lib.ListN.{length, length-append, get_or}
 use borrow.Author.Tests.{ltb-true}
-use Rattle.isa_decoding.specs.declared.Decoded.{Decoded}
-use Rattle.isa_decoding.specs.declared.Decoded.TheVariants.{Read, Unknown, Outside}
 use Rattle.isa_decoding.specs.Decode.{decoded}
 use Rattle.table_rows.specs.Rows.{rows, row_at, rows_from}
 use Rattle.text.specs.Ascii.{ascii}
 use Rattle.text.specs.Text.{decimal_of, decimal, word}
-use Rattle.inspect_text.specs.Text.{unknown_text, outside_text, numbers_text, line_of, line, row_text, lines, or_all_decode, trace_text}
+use Rattle.inspect_text.specs.Text.{numbers_text, line_of, line, row_text, lines, or_all_decode, trace_text}
 use Rattle.inspect_text.specs.Theorems.{Decodes, AllDecode}
+use Rattle.std.specs.Prelude.{Result, Ok, Err}
+use Rattle.isa_decoding.specs.declared.Undecodable.TheVariants.{Unknown, Outside}
+use Rattle.isa.specs.declared.Instruction.{Instruction}
+use Rattle.isa_decoding.specs.declared.Undecodable.{Undecodable}
 
 -- what it begins with, if with anything, is no letter
 abbrev NoLetter : List ℕ → Type 0
 NoLetter l = (c : ℕ) (cs : List ℕ) → l ≡ c ∷ cs → c < 58
 
 nothing : NoLetter []
-nothing c cs e = let z : ◌≡◌ {A = ℕ} 0 1 = cc in absurd (omega arith)
+nothing c cs e = cc
 
 digit : (d : ℕ) (ds : List ℕ) → d < 58 → NoLetter (d ∷ ds)
 digit d ds h c cs e = let same : d ≡ c = cc in omega arith
@@ -66,10 +68,10 @@ module _ (row ci nia : ℕ) where
   not_empty : (reason : List ℕ) → numbers_text row ci nia ++ reason ++ ascii "\n" ≡ [] → ⊥
   not_empty reason e = omega (arith, ap length e, length-append (numbers_text row ci nia ++ reason) (ascii "\n"))
 
-  of_line : (d : Decoded) → NoLetter (line_of d row ci nia)
-  of_line (Read i) = nothing
-  of_line Unknown = said (unknown_text ci)
-  of_line (Outside class i) = said (outside_text class i nia)
+  of_line : (d : Result Instruction Undecodable) → NoLetter (line_of d row ci nia)
+  of_line (Ok i) = nothing
+  of_line (Err Unknown) = said _
+  of_line (Err (Outside class i)) = said _
 
   line_no_letter : NoLetter (line row ci nia)
   unfolding line
@@ -82,10 +84,10 @@ module _ (words : List ℕ) (row : ℕ) where
   abbrev nia : ℕ
   nia = get_or words 4 0
 
-  by_decoded : (d : Decoded) → decoded ci nia ≡ d → line_of d row ci nia ≡ [] → Decodes words
-  by_decoded (Read i) e z = record { instruction = i; read = e }
-  by_decoded Unknown e z = absurd (not_empty row ci nia (unknown_text ci) z)
-  by_decoded (Outside class i) e z = absurd (not_empty row ci nia (outside_text class i nia) z)
+  by_decoded : (d : Result Instruction Undecodable) → decoded ci nia ≡ d → line_of d row ci nia ≡ [] → Decodes words
+  by_decoded (Ok i) e z = record { instruction = i; read = e }
+  by_decoded (Err Unknown) e z = absurd (not_empty row ci nia _ z)
+  by_decoded (Err (Outside class i)) e z = absurd (not_empty row ci nia _ z)
 
   decodes : row_text words row ≡ [] → Decodes words
   unfolding line
@@ -97,7 +99,7 @@ module _ (words : List ℕ) (row : ℕ) where
 
 front_empty : (xs ys : List ℕ) → xs ++ ys ≡ [] → (xs ≡ []) × (ys ≡ [])
 front_empty [] ys e = (refl, e)
-front_empty (x ∷ xs) ys e = let z : ◌≡◌ {A = ℕ} 0 1 = cc in absurd (omega arith)
+front_empty (x ∷ xs) ys e = cc
 
 module _ (f : ℕ → List ℕ) where
   rows_no_letter : (c n : ℕ) → ((k : ℕ) → NoLetter (f k)) → NoLetter (rows_from f c n)

@@ -1,16 +1,16 @@
 -- A line for each row that does not decode: the row's number, CI, NIA and the reason; or, where every row decodes, that they do.
-use Rattle.std.specs.Prelude.{List, [], ◌∷◌, ◌++◌, ℕ, get_or}
+use Rattle.std.specs.Prelude.{List, [], ◌∷◌, ◌++◌, ℕ, get_or, Result, Ok, Err}
 use Rattle.air.specs.MainColumn.{CI, NIA}
 use Rattle.isa.specs.declared.Instruction.{Instruction}
 use Rattle.isa_decoding.specs.declared.Class.{Class}
 use Rattle.isa_decoding.specs.declared.Class.TheVariants.{StackElement, NumberOfWords}
-use Rattle.isa_decoding.specs.declared.Decoded.{Decoded}
-use Rattle.isa_decoding.specs.declared.Decoded.TheVariants.{Read, Unknown, Outside}
 use Rattle.isa_decoding.specs.Decode.{decoded}
 use Rattle.table_rows.specs.Rows.{rows, row_at, rows_from}
 use Rattle.air_names.specs.Instruction.{name_of}
 use Rattle.text.specs.Ascii.{ascii}
 use Rattle.text.specs.Text.{SPACE, decimal, word}
+use Rattle.isa_decoding.specs.declared.Undecodable.TheVariants.{Unknown, Outside}
+use Rattle.isa_decoding.specs.declared.Undecodable.{Undecodable}
 
 -- the words that a class allows
 abbrev pub limits : Class → List ℕ
@@ -27,10 +27,10 @@ unfoldable pub numbers_text : ℕ → ℕ → ℕ → List ℕ
 numbers_text row ci nia = word row SPACE ++ word ci SPACE ++ word nia SPACE
 
 -- a row's line; none where it decodes
-abbrev pub line_of : Decoded → ℕ → ℕ → ℕ → List ℕ
-line_of (Read i) row ci nia = []
-line_of Unknown row ci nia = numbers_text row ci nia ++ unknown_text ci ++ ascii "\n"
-line_of (Outside class i) row ci nia = numbers_text row ci nia ++ outside_text class i nia ++ ascii "\n"
+abbrev pub line_of : Result Instruction Undecodable → ℕ → ℕ → ℕ → List ℕ
+line_of (Ok i) row ci nia = []
+line_of (Err Unknown) row ci nia = numbers_text row ci nia ++ unknown_text ci ++ ascii "\n"
+line_of (Err (Outside class i)) row ci nia = numbers_text row ci nia ++ outside_text class i nia ++ ascii "\n"
 
 unfoldable pub line : ℕ → ℕ → ℕ → List ℕ
 line row ci nia = line_of (decoded ci nia) row ci nia

@@ -1,8 +1,7 @@
 -- What is proved of the text. The proof is in proofs/Theorems.antt.
-use Rattle.std.specs.Prelude.{◌≡◌, ◌↔◌, List, ℕ, ◌<◌, get_or}
+use Rattle.std.specs.Prelude.{◌≡◌, ◌↔◌, List, ℕ, ◌<◌, get_or, Ok}
 use Rattle.air.specs.MainColumn.{CI, NIA}
 use Rattle.isa.specs.declared.Instruction.{Instruction}
-use Rattle.isa_decoding.specs.declared.Decoded.TheVariants.{Read}
 use Rattle.isa_decoding.specs.Decode.{decoded}
 use Rattle.table_rows.specs.Rows.{rows, row_at}
 use Rattle.text.specs.Ascii.{ascii}
@@ -11,7 +10,7 @@ use Rattle.inspect_text.specs.Text.{trace_text}
 -- a row's words decode to an instruction
 pub record Decodes (words : List ℕ) : Type 0 where
   pub instruction : Instruction
-  pub read : decoded (get_or words CI 0) (get_or words NIA 0) ≡ Read instruction
+  pub read : decoded (get_or words CI 0) (get_or words NIA 0) ≡ Ok instruction
 
 -- `all rows decode` is said exactly if every row decodes
 abbrev pub AllDecode : Type 0

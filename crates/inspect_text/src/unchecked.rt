@@ -10,7 +10,7 @@ ghost use Rattle.inspect_text.specs.Text.{limits, unknown_text, outside_text, nu
 use air::MainIndex;
 use air::unchecked::word_at;
 use isa::Instruction;
-use isa_decoding::{Class, Decoded};
+use isa_decoding::{Class, Undecodable};
 use text::unchecked::{put_bytes, put_decimal, put_word};
 
 fn put_name(i: Instruction, out: &mut [u8], at: usize) -> usize
@@ -18,10 +18,7 @@ fn put_name(i: Instruction, out: &mut [u8], at: usize) -> usize
     ensures end { (result ≡ at + length (name_of i)) × (result ≤ at + 17) }
     ensures text { out.new ≡ sets out.old at (name_of i) }
 {
-    let name = air_names::instruction(i);
-    let bytes = name.bytes;
-    let length = name.length;
-    put_bytes(&bytes[..length], out, at)
+    put_bytes(air_names::instruction(i).as_bytes(), out, at)
 }
 
 fn put_limits(class: Class, out: &mut [u8], at: usize) -> usize
@@ -35,6 +32,7 @@ fn put_limits(class: Class, out: &mut [u8], at: usize) -> usize
     }
 }
 
+#[tactic(auto, using(text::proofs::Stores::stores, text::proofs::Digits::at_most_twenty), unfolding(crate::specs::Text::unknown_text))]
 fn put_unknown(ci: u64, out: &mut [u8], at: usize) -> usize
     requires { at + 35 ≤ length out.old }
     ensures end { (result ≡ at + length (unknown_text ci)) × (result ≤ at + 35) }
@@ -45,6 +43,7 @@ fn put_unknown(ci: u64, out: &mut [u8], at: usize) -> usize
     put_bytes(b" is none", out, at1)
 }
 
+#[tactic(auto, using(text::proofs::Stores::stores, text::proofs::Digits::at_most_twenty), unfolding(crate::specs::Text::outside_text))]
 fn put_outside(class: Class, i: Instruction, nia: u64, out: &mut [u8], at: usize) -> usize
     requires { at + 68 ≤ length out.old }
     ensures end { (result ≡ at + length (outside_text class i nia)) × (result ≤ at + 68) }
@@ -59,6 +58,7 @@ fn put_outside(class: Class, i: Instruction, nia: u64, out: &mut [u8], at: usize
 }
 
 // Three numbers, and a space after each.
+#[tactic(auto, using(text::proofs::Stores::stores, text::proofs::Digits::at_most_two), unfolding(crate::specs::Text::numbers_text))]
 fn put_numbers(row: usize, ci: u64, nia: u64, out: &mut [u8], at: usize) -> usize
     requires { (row < 100) × (at + 63 ≤ length out.old) }
     ensures end { (result ≡ at + length (numbers_text row ci nia)) × (result ≤ at + 45) }
@@ -70,20 +70,20 @@ fn put_numbers(row: usize, ci: u64, nia: u64, out: &mut [u8], at: usize) -> usiz
 }
 
 // The line of a row that does not decode; nothing for one that does.
+#[tactic(auto, using(text::proofs::Stores::stores), unfolding(crate::specs::Text::line))]
 fn put_line(row: usize, ci: u64, nia: u64, out: &mut [u8], at: usize) -> usize
     requires { (row < 100) × (at + 114 ≤ length out.old) }
     ensures end { (result ≡ at + length (line row ci nia)) × (result ≤ at + 114) }
     ensures text { out.new ≡ sets out.old at (line row ci nia) }
 {
-    let decoded = isa_decoding::instruction_from(ci, nia);
-    match decoded {
-        Decoded::Read(_) => at,
-        Decoded::Unknown => {
+    match isa_decoding::instruction_from(ci, nia) {
+        Ok(_) => at,
+        Err(Undecodable::Unknown) => {
             let at0 = put_numbers(row, ci, nia, out, at);
             let at1 = put_unknown(ci, out, at0);
             put_bytes(b"\n", out, at1)
         }
-        Decoded::Outside(class, i) => {
+        Err(Undecodable::Outside(class, i)) => {
             let at0 = put_numbers(row, ci, nia, out, at);
             let at1 = put_outside(class, i, nia, out, at0);
             put_bytes(b"\n", out, at1)
@@ -102,24 +102,24 @@ fn put_row(words: &[u64], row: usize, out: &mut [u8], at: usize) -> usize
 }
 
 // At the start of `out`.
+#[tactic(auto, using(text::proofs::Stores::stores, table_rows::proofs::Rows::one_more_row, table_rows::proofs::Rows::row_part), unfolding(crate::specs::Text::lines, table_rows::specs::Rows::rows_from))]
 fn put_lines(trace: &[u64], out: &mut [u8]) -> usize
     requires { (rows trace.now ≤ MAX-ROWS) × (MAX-ROWS * 114 ≤ length out.old) }
     ensures end { (result ≡ length (lines trace.now)) × (result ≤ MAX-ROWS * 114) }
     ensures text { out.new ≡ sets out.old 0 (lines trace.now) }
 {
     let rows = trace.len() / MainIndex::COUNT;
-    let mut at: usize = 0;
-    let mut row: usize = 0;
-    while row < rows {
+    let mut at = 0;
+    for row in 0..rows {
         let first = row * MainIndex::COUNT;
         let end = first + MainIndex::COUNT;
         at = put_row(&trace[first..end], row, out, at);
-        row += 1;
     }
     at
 }
 
 // The lines of a trace's rows, or one that says that all decode, at the start of `out`.
+#[tactic(auto, unfolding(crate::specs::Text::trace_text))]
 pub fn put_trace(trace: &[u64], out: &mut [u8]) -> usize
     requires { (rows trace.now ≤ MAX-ROWS) × (MAX-ROWS * 114 ≤ length out.old) }
     ensures end { (result ≡ length (trace_text trace.now)) × (result ≤ MAX-ROWS * 114) }

@@ -75,7 +75,7 @@ pub enum Instruction {
 }
 
 // By how many elements an instruction changes the stack's height.
-#[derive(Clone, Copy)]
+#[derive(Clone, Copy, PartialEq, Eq)]
 pub enum Influence {
     Grows(u64),
     Shrinks(u64),

@@ -1,28 +1,25 @@
 -- Bytes as opcodes: which have an instruction, and that what is decided on them is what their words decode to.
 use mathlib.Core.Path.{◌≡◌, refl, sym, ap, ◌∙◌}
 use mathlib.Core.Logic.{◌≢◌}
-use mathlib.Core.Bool.{Bool, true, false, cond, ◌&&◌}
+use mathlib.Core.Bool.{Bool, true, ◌&&◌}
 use mathlib.Core.List.{List, [], ◌∷◌, map}
 use Prim.Native.Nat.{ℕ, zero, suc, ◌+◌, ◌≤◌, ◌<◌}
 use native.Mathlib.Nat.{add-zero, zero-add, le_of_suc-le-suc, not-suc-le-zero}
 use native.Mathlib.Omega.{arith}
 use borrow.Author.Tests.{leb-true}
-use lib.Dec.{eqb, leb, lit<}
+use lib.Dec.{leb}
 use lib.ListN.{length, get_or}
 use denote.Enum.Declared.{tag_of}
 use Rattle.algebra.specs.Polynomial.{All}
 use Rattle.air.specs.Count.{from}
 use Rattle.field_base.proofs.Below.{and-true}
-use Rattle.isa.specs.Instruction.{stack_element, number_of_words, allowed}
 use Rattle.isa_decoding.specs.Decode.{decoded}
 use Rattle.isa_decoding.specs.Byte.{ByteKind, none, alone, word, element, words, bytes, kind_at, decided_on}
-use Rattle.isa_decoding.specs.Candidate.{candidate}
+use Rattle.isa_decoding.specs.declared.Undecodable.TheVariants.{Unknown}
+use Rattle.std.specs.Prelude.{Err}
 use Rattle.isa_decoding.specs.Theorems.{OpcodesAreBytes, BytesDecide}
-use Rattle.isa_decoding.specs.declared.Candidate.{Candidate}
-use Rattle.isa_decoding.specs.declared.Decoded.{Decoded}
-use Rattle.isa_decoding.specs.declared.Decoded.TheVariants.{Read, Unknown, Outside}
-use Rattle.isa_decoding.specs.declared.Class.TheVariants.{StackElement, NumberOfWords}
 use Rattle.isa.specs.contracts.Instruction.{the_type}
+use Rattle.isa_decoding.proofs.Theorems.{unknown_opcodes}
 use Rattle.isa_decoding.proofs.Tags.{opcodes, tag_opcode}
 
 -- the bytes from a on that have an instruction
@@ -63,31 +60,6 @@ pub no_instruction : (b : ℕ) → Missed Unit (opcodes_from 0 bytes) b → none
 unfolding kind_at
 no_instruction b h = sym (unnamed bytes 0 b (sym (zero-add b)) (missed Unit (opcodes_from 0 bytes) b h).1)
 
--- what the decoder makes of a candidate and of the two tests of its argument
-abbrev pub chosen : Bool → Bool → Candidate → Decoded
-chosen e w c =
-    cond (get_or (true ∷ e ∷ w ∷ false ∷ []) c.0 false) (Read c.1)
-    (cond (eqb c.0 1) (Outside StackElement c.1)
-    (cond (eqb c.0 2) (Outside NumberOfWords c.1)
-    Unknown))
-
-chosen_on : (k : ByteKind) (n : ℕ) → chosen (allowed (stack_element n)) (allowed (number_of_words n)) (candidate k n) ≡ decided_on k n
-chosen_on none n = refl
-chosen_on (alone i) n = refl
-chosen_on (word f) n = refl
-chosen_on (element f) n = refl
-chosen_on (words f) n = refl
-
-pub decides : (k : ByteKind) (n : ℕ) {e w : Bool} {c : Candidate} → c ≡ candidate k n → e ≡ allowed (stack_element n) → w ≡ allowed (number_of_words n) → chosen e w c ≡ decided_on k n
-decides k n h e w = rw (h, e, w) (chosen_on k n)
-
-pub test_below : (k : ByteKind) (n : ℕ) → (candidate k n).0 < 4
-test_below none n = lit< tt
-test_below (alone i) n = lit< tt
-test_below (word f) n = lit< tt
-test_below (element f) n = lit< tt
-test_below (words f) n = lit< tt
-
 -- two lists that are the same are so at each place
 carried : {A B : Type 0} (f : A → B) (g : ℕ → B) (d : A) (l : List A) (a t : ℕ) → map f l ≡ map g (from a (length l)) → t < length l → f (get_or l t d) ≡ g (a + t)
 carried f g d [] a t e h = absurd (not-suc-le-zero h)
@@ -118,3 +90,10 @@ within_at m (x ∷ l) (suc t) h = within_at m l t (and-true (leb x m) (within m 
 
 pub opcodes_are_bytes : OpcodesAreBytes
 opcodes_are_bytes i = rw (← tag_opcode i) (within_at 88 opcodes (tag_of the_type i) refl)
+
+-- what `instruction_from` stands on: a byte up to 88, and a word above it
+pub decoded_byte : (b n : ℕ) → b ≤ 88 → decoded b n ≡ decided_on (kind_at b) n
+decoded_byte b n l = sym (bytes_decide b n l)
+
+pub decoded_above : (ci nia : ℕ) → 88 < ci → decoded ci nia ≡ Err Unknown
+decoded_above ci nia l = (unknown_opcodes ci nia).1 (λ i e. let m = opcodes_are_bytes i in omega arith)

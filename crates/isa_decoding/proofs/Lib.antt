@@ -2,5 +2,4 @@
 pub mod Find
 pub mod Tags
 pub mod Bytes
-pub mod Unread
 pub mod Theorems

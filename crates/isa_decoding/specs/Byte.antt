@@ -1,11 +1,11 @@
 -- What a byte stands for as an opcode, and what is decided on it. Document 02: "Past the point where the word is known to be at most 88, hold one byte inside."
-use Rattle.std.specs.Prelude.{List, [], ◌∷◌, ℕ, get_or}
+use Rattle.std.specs.Prelude.{List, [], ◌∷◌, ℕ, get_or, Result, Ok, Err}
 use Rattle.isa.specs.Instruction.{any_word, stack_element, number_of_words}
 use Rattle.isa.specs.declared.Instruction.{Instruction}
 use Rattle.isa.specs.declared.Instruction.TheVariants.{Push, Pop, Divine, Pick, Place, Dup, Swap, Halt, Nop, Skiz, Call, Return, Recurse, RecurseOrReturn, Assert, ReadMem, WriteMem, Hash, AssertVector, SpongeInit, SpongeAbsorb, SpongeAbsorbMem, SpongeSqueeze, Add, AddI, Mul, Invert, Eq, Split, Lt, And, Xor, Log2Floor, Pow, DivMod, PopCount, XxAdd, XxMul, XInvert, XbMul, ReadIo, WriteIo, MerkleStep, MerkleStepMem, XxDotStep, XbDotStep}
 use Rattle.isa_decoding.specs.Decode.{checked}
-use Rattle.isa_decoding.specs.declared.Decoded.{Decoded}
-use Rattle.isa_decoding.specs.declared.Decoded.TheVariants.{Read, Unknown}
+use Rattle.isa_decoding.specs.declared.Undecodable.TheVariants.{Unknown}
+use Rattle.isa_decoding.specs.declared.Undecodable.{Undecodable}
 
 -- no instruction; one without an argument; one that waits for its argument, any word, a stack element or a number of words
 pub data ByteKind : Type 0 where
@@ -33,9 +33,9 @@ unfoldable pub kind_at : ℕ → ByteKind
 kind_at b = get_or bytes b none
 
 -- what is decided on a kind, with n as the argument
-abbrev pub decided_on : ByteKind → ℕ → Decoded
-decided_on none n = Unknown
-decided_on (alone i) n = Read i
+abbrev pub decided_on : ByteKind → ℕ → Result Instruction Undecodable
+decided_on none n = Err Unknown
+decided_on (alone i) n = Ok i
 decided_on (word f) n = checked (any_word n) (f n)
 decided_on (element f) n = checked (stack_element n) (f n)
 decided_on (words f) n = checked (number_of_words n) (f n)

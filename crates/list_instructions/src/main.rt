@@ -2,187 +2,140 @@
 // Each word below 512, and each of them with 2^32 added, is decoded with the arguments 0 to 16 and p - 1.
 #![tactic(auto)]
 
-ghost use Rattle.std.specs.Prelude.{◌<◌, ◌≤◌};
+ghost use Rattle.std.specs.Prelude.{◌≤◌, IfOk};
 
 use isa::Influence;
-use isa_decoding::{Class, Decoded};
+use isa_decoding::{Class, Undecodable};
+use standard_input::read_input;
+use std::io;
 
-// A line's length with its end, and where its opcode, the kind of its argument, and its influence stand.
-const LINE: usize = 28;
+const ARGUMENTS: [u64; 18] = [
+    0,
+    1,
+    2,
+    3,
+    4,
+    5,
+    6,
+    7,
+    8,
+    9,
+    10,
+    11,
+    12,
+    13,
+    14,
+    15,
+    16,
+    18446744069414584320,
+];
 
-const OPCODE: usize = 18;
-
-const KIND: usize = 22;
-
-const SIGN: usize = 24;
-
-const SIZE: usize = 25;
-
-const WORDS: u64 = 1024;
-
-const ARGUMENTS: u64 = 18;
-
-fn word(k: u64) -> u64
-    requires { k < 1024 }
-{
-    if k < 512 { k } else { k - 512 + 4294967296 }
+// What the list says of an instruction besides its name.
+#[derive(Clone, Copy)]
+struct Line<'a> {
+    opcode: u64,
+    // "s" and "n" are the classes that have limits.
+    kind: &'a str,
+    // A sign and two digits, or "nn" for the argument.
+    influence: &'a str,
 }
 
-fn argument(k: u64) -> u64 {
-    if k < 17 { k } else { 18446744069414584320 }
+fn line_from(text: &str) -> Option<Line<'_>> {
+    let mut words = text.split_whitespace();
+    let _name = words.next()?;
+    let opcode = words.next()?.parse::<u64>().ok()?;
+    let kind = words.next()?;
+    let influence = words.next()?;
+    Some(Line {
+        opcode,
+        kind,
+        influence,
+    })
 }
 
-fn digit(b: u8) -> u64
-    ensures { result < 10 }
-{
-    match b {
-        b'1' => 1,
-        b'2' => 2,
-        b'3' => 3,
-        b'4' => 4,
-        b'5' => 5,
-        b'6' => 6,
-        b'7' => 7,
-        b'8' => 8,
-        b'9' => 9,
-        _ => 0,
-    }
+fn line_of(list: &str, opcode: u64) -> Option<Line<'_>> {
+    list.lines()
+        .filter_map(line_from)
+        .find(|line| line.opcode == opcode)
 }
 
-fn has_opcode(line: &[u8], opcode: u64) -> bool {
-    if line.len() < LINE {
-        return false;
-    }
-    let hundreds = digit(line[OPCODE]);
-    let tens = digit(line[OPCODE + 1]);
-    let ones = digit(line[OPCODE + 2]);
-    hundreds * 100 + tens * 10 + ones == opcode
-}
-
-// The line of an opcode, and no byte where there is none.
-fn line_of(list: &[u8], opcode: u64) -> &[u8] {
-    let mut at: usize = 0;
-    while LINE <= list.len() - at {
-        let end = at + LINE;
-        if has_opcode(&list[at..end], opcode) {
-            return &list[at..end];
-        }
-        at = end;
-    }
-    &list[..0]
-}
-
-fn allows(kind: u8, argument: u64) -> bool {
+fn allows(kind: &str, argument: u64) -> bool {
     match kind {
-        b's' => argument <= 15,
-        b'n' => 1 <= argument && argument <= 5,
+        "s" => argument <= 15,
+        "n" => 1 <= argument && argument <= 5,
         _ => true,
     }
 }
 
-// What a line says of the influence, "nn" being the argument.
-fn listed(sign: u8, tens: u8, ones: u8, argument: u64) -> Influence {
-    let size = if tens == b'n' {
-        argument
-    } else {
-        digit(tens) * 10 + digit(ones)
+// The class as a line has it.
+fn kind_of(class: Class) -> &'static str {
+    match class {
+        Class::StackElement => "s",
+        Class::NumberOfWords => "n",
+    }
+}
+
+// What a line says of the influence.
+fn influence_from(text: &str, argument: u64) -> Option<Influence> {
+    let size = match text.get(1..)? {
+        "nn" => argument,
+        digits => digits.parse::<u64>().ok()?,
     };
     if size == 0 {
-        Influence::Keeps
-    } else if sign == b'+' {
-        Influence::Grows(size)
+        Some(Influence::Keeps)
+    } else if text.starts_with('+') {
+        Some(Influence::Grows(size))
     } else {
-        Influence::Shrinks(size)
-    }
-}
-
-fn same(a: Influence, b: Influence) -> bool {
-    match a {
-        Influence::Grows(m) => match b {
-            Influence::Grows(n) => m == n,
-            _ => false,
-        },
-        Influence::Shrinks(m) => match b {
-            Influence::Shrinks(n) => m == n,
-            _ => false,
-        },
-        Influence::Keeps => match b {
-            Influence::Keeps => true,
-            _ => false,
-        },
-    }
-}
-
-// The class as a line has it.
-fn kind_of(class: Class) -> u8 {
-    match class {
-        Class::StackElement => b's',
-        Class::NumberOfWords => b'n',
+        Some(Influence::Shrinks(size))
     }
 }
 
 // Whether decoding the two words gives what the word's line says.
-fn agrees(line: &[u8], word: u64, argument: u64) -> bool {
+fn agrees(line: Option<Line<'_>>, word: u64, argument: u64) -> bool {
     let decoded = isa_decoding::instruction_from(word, argument);
-    if line.len() < LINE {
-        return match decoded {
-            Decoded::Unknown => true,
-            _ => false,
-        };
-    }
-    let allowed = allows(line[KIND], argument);
-    let influence = listed(line[SIGN], line[SIZE], line[SIZE + 1], argument);
+    let Some(line) = line else {
+        return matches!(decoded, Err(Undecodable::Unknown));
+    };
+    let allowed = allows(line.kind, argument);
     match decoded {
-        Decoded::Unknown => false,
-        Decoded::Outside(class, i) => {
-            !allowed && isa::opcode(i) == word && kind_of(class) == line[KIND]
+        Err(Undecodable::Unknown) => false,
+        Err(Undecodable::Outside(class, i)) => {
+            !allowed && isa::opcode(i) == word && kind_of(class) == line.kind
         }
-        Decoded::Read(i) => allowed
-            && isa::opcode(i) == word
-            && same(isa::op_stack_size_influence(i), influence),
+        Ok(i) => {
+            allowed
+                && isa::opcode(i) == word
+                && influence_from(line.influence, argument) == Some(isa::op_stack_size_influence(i))
+        }
     }
 }
 
-// 1 where the two words differ from the line, which is then said, and 0 where they agree.
-fn difference(line: &[u8], word: u64, argument: u64) -> u64
-    ensures { result ≤ 1 }
-{
-    if agrees(line, word, argument) {
-        return 0;
-    }
-    io::write_all(1, b"differs: ");
-    io::print_decimal(1, word);
-    io::write_all(1, b" ");
-    io::print_decimal(1, argument);
-    io::write_all(1, b"\n");
-    1
-}
-
-fn differences_of(list: &[u8], word: u64) -> u64
-    ensures { result ≤ 18 }
+// How many arguments give something else than the word's line says, each of which is said.
+fn differences_of(rt: &impl Print, list: &str, word: u64) -> io::Result<u64>
+    ensures { IfOk result (λ count. count ≤ 18) }
 {
     let line = line_of(list, word);
-    let mut count: u64 = 0;
-    for k in 0..ARGUMENTS {
-        count += difference(line, word, argument(k));
+    let mut count = 0u64;
+    for argument in ARGUMENTS {
+        if !agrees(line, word, argument) {
+            println!(rt; "differs: {word} {argument}")?;
+            count += 1;
+        }
     }
-    count
+    Ok(count)
 }
 
-fn differences(list: &[u8]) -> u64 {
-    let mut count: u64 = 0;
-    for k in 0..WORDS {
-        count += differences_of(list, word(k));
+fn main(rt: HostRuntime) -> io::Result<()> {
+    let mut buffer = [0u8; 4096];
+    let n = read_input(&mut rt.stdin(), &mut buffer)?;
+    let list = str::from_utf8(&buffer[..n]).unwrap_or("");
+    let mut count = 0u64;
+    for word in 0..512 {
+        count += differences_of(&rt, list, word)?;
+        count += differences_of(&rt, list, word + (1 << 32))?;
     }
-    count
-}
-
-fn main() {
-    let mut text = io::buffer();
-    let n = io::read_full(0, &mut text);
-    let count = differences(&text[..n]);
-    io::print_decimal(1, (n / LINE) as u64);
-    io::write_all(1, b" instructions, ");
-    io::print_decimal(1, count);
-    io::write_all(1, b" differences\n");
+    println!(rt;
+        "{} instructions, {count} differences",
+        list.lines().count()
+    )
 }

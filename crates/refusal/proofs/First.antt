@@ -8,11 +8,10 @@ use native.Mathlib.Omega.{arith}
 use lib.Dec.{T, T_not, eqb, eqb_refl}
 use borrow.Author.Tests.{eqb-true}
 use mir.Facts.{and_yes}
-use Rattle.refusal.specs.Number.{number_of}
+use Rattle.refusal.specs.Number.{Done, number_of}
 use Rattle.refusal.specs.Tests.{Test, Tests, ◌when◌, first_or, first, NoneHolds, HoldsFirst}
 use Rattle.refusal.specs.declared.Refusal.{Refusal}
-use Rattle.refusal.specs.declared.Answer.{Answer}
-use Rattle.refusal.specs.declared.Answer.TheVariants.{Done, Refused}
+use Rattle.std.specs.Prelude.{Result, Err}
 
 -- the number of each test's refusal stands in the line
 abbrev pub Listed : List ℕ → Tests → Type 0
@@ -89,16 +88,16 @@ module _ {A : Type 0} (refused : Refusal → A) where
   number_listed number numbered (test ∷ tests) done l f =
       chosen number test.holds (refused test.refusal) (first_or refused tests done) (rw (numbered test.refusal) l.0) (number_listed number numbered tests done l.1 f)
 
-done_alone : (r : Refusal) → Refused r ≢ Done
+done_alone : (r : Refusal) → Err r ≢ Done
 done_alone r e = let z : ◌≡◌ {A = ℕ} 0 1 = cc in omega arith
 
 -- done exactly if no test holds
 pub done_exactly : (tests : Tests) → (first tests ≡ Done) ↔ NoneHolds tests
-done_exactly tests = (λ e. (past_all Refused tests Done Done done_alone e).0, none_holds Refused tests Done)
+done_exactly tests = (λ e. (past_all Err tests Done Done done_alone e).0, none_holds Err tests Done)
 
 -- refused with r exactly if a test of r holds and none before it
-pub refused_exactly : (tests : Tests) (r : Refusal) → (first tests ≡ Refused r) ↔ HoldsFirst r tests
-refused_exactly tests r = (holds_first Refused (λ s t e. cc) tests Done r (λ e. done_alone r (sym e)), refused_first Refused tests Done r)
+pub refused_exactly : (tests : Tests) (r : Refusal) → (first tests ≡ Err r) ↔ HoldsFirst r tests
+refused_exactly tests r = (holds_first Err (λ s t e. cc) tests Done r (λ e. done_alone r (sym e)), refused_first Err tests Done r)
 
 -- tests put behind others change no refusal of theirs
 holds_before : (before after : Tests) (r : Refusal) → HoldsFirst r before → HoldsFirst r (before ++ after)
@@ -106,7 +105,7 @@ holds_before [] after r h = absurd h
 holds_before (test ∷ before) after r (inl h) = inl h
 holds_before (test ∷ before) after r (inr h) = inr (h.0, holds_before before after r h.1)
 
-pub refused_before : (before after : Tests) (r : Refusal) → first before ≡ Refused r → first (before ++ after) ≡ Refused r
+pub refused_before : (before after : Tests) (r : Refusal) → first before ≡ Err r → first (before ++ after) ≡ Err r
 refused_before before after r e = (refused_exactly (before ++ after) r).1 (holds_before before after r ((refused_exactly before r).0 e))
 
 -- whether no test has this refusal
@@ -139,22 +138,22 @@ module _ (r : Refusal) (condition : Bool) (after : Tests) where
   from_inserted (test ∷ before) none e = inr (none.0, from_inserted before none.1 e)
 
   -- a refusal of its own, put in: answered exactly if its condition holds and no test before it
-  pub inserted_exactly : (before : Tests) → T (lacks r before) → T (lacks r after) → (first (before ++ (r when condition) ∷ after) ≡ Refused r) ↔ (NoneHolds before × (condition ≡ true))
+  pub inserted_exactly : (before : Tests) → T (lacks r before) → T (lacks r after) → (first (before ++ (r when condition) ∷ after) ≡ Err r) ↔ (NoneHolds before × (condition ≡ true))
   inserted_exactly before l m =
       let law = refused_exactly (before ++ (r when condition) ∷ after) r in
       (λ e. to_inserted before l m (law.0 e), λ h. law.1 (from_inserted before h.0 h.1))
 
   -- elsewhere the answer is as without it
-  pub inserted_elsewhere : (before : Tests) → first (before ++ (r when condition) ∷ after) ≢ Refused r → first (before ++ (r when condition) ∷ after) ≡ first (before ++ after)
+  pub inserted_elsewhere : (before : Tests) → first (before ++ (r when condition) ∷ after) ≢ Err r → first (before ++ (r when condition) ∷ after) ≡ first (before ++ after)
   inserted_elsewhere [] ne = here condition ne
     where
-      here : (b : Bool) → cond b (Refused r) (first after) ≢ Refused r → cond b (Refused r) (first after) ≡ first after
+      here : (b : Bool) → cond b (Err r) (first after) ≢ Err r → cond b (Err r) (first after) ≡ first after
       here true ne = absurd (ne refl)
       here false ne = refl
   inserted_elsewhere (test ∷ before) ne = later test.holds (first (before ++ (r when condition) ∷ after)) ne (inserted_elsewhere before)
     where
-      later : (b : Bool) (x : Answer) → cond b (Refused test.refusal) x ≢ Refused r → (x ≢ Refused r → x ≡ first (before ++ after))
-          → cond b (Refused test.refusal) x ≡ cond b (Refused test.refusal) (first (before ++ after))
+      later : (b : Bool) (x : Result (Unit {0}) Refusal) → cond b (Err test.refusal) x ≢ Err r → (x ≢ Err r → x ≡ first (before ++ after))
+          → cond b (Err test.refusal) x ≡ cond b (Err test.refusal) (first (before ++ after))
       later true x ne same = refl
       later false x ne same = same ne
 

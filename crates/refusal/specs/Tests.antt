@@ -1,11 +1,9 @@
 -- An operation's line of refusals: tests in their order, each with its refusal. "A refusal holds only under its condition, first in order."
-use Rattle.std.specs.Prelude.{◌≡◌, ◌⊎◌, Bool, true, false, cond, not, List, [], ◌∷◌}
+use Rattle.std.specs.Prelude.{◌≡◌, ◌⊎◌, Bool, true, false, cond, not, List, [], ◌∷◌, Result, Err}
 -- passed on, for the files of answers
-pub use Rattle.refusal.specs.Number.{number_of, answer_number_of, on_done}
+pub use Rattle.refusal.specs.Number.{number_of, Done, answer_number_of, on_done}
 pub use Rattle.refusal.specs.Long.{MAX-LEN, is_long}
 use Rattle.refusal.specs.declared.Refusal.{Refusal}
-use Rattle.refusal.specs.declared.Answer.{Answer}
-use Rattle.refusal.specs.declared.Answer.TheVariants.{Done, Refused}
 
 pub record Test : Type 0 where
   pub refusal : Refusal
@@ -26,8 +24,8 @@ abbrev pub first_or : {A : Type 0} → (Refusal → A) → Tests → A → A
 first_or refused [] done = done
 first_or refused (test ∷ tests) done = cond test.holds (refused test.refusal) (first_or refused tests done)
 
-abbrev pub first : Tests → Answer
-first tests = first_or Refused tests Done
+abbrev pub first : Tests → Result (Unit {0}) Refusal
+first tests = first_or Err tests Done
 
 abbrev pub NoneHolds : Tests → Type 0
 NoneHolds [] = Unit {0}

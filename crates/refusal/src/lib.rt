@@ -7,55 +7,37 @@ ghost use Rattle.refusal.specs.Number.{number_of, answer_number_of};
 // A table with more rows is long, and so is a list with more words.
 pub const MAX_LEN: usize = 4194304;
 
+// Each with its number.
 #[derive(Clone, Copy)]
 pub enum Refusal {
-    SliceLength,
-    WordNotBelowP,
-    RowCount,
-    DifferenceTooLarge,
-    ChunkLengthZero,
-    ZeroDenominator,
-    UnknownCommand,
-    BatchCutOff,
-    CommandOutOfPlace,
-    CommandOutOfOrder,
-    UndecodableRow,
-    HeightOutOfRange,
+    SliceLength = 1,
+    WordNotBelowP = 2,
+    RowCount = 3,
+    DifferenceTooLarge = 4,
+    ChunkLengthZero = 5,
+    ZeroDenominator = 6,
+    UnknownCommand = 7,
+    BatchCutOff = 8,
+    CommandOutOfPlace = 9,
+    CommandOutOfOrder = 10,
+    UndecodableRow = 11,
+    HeightOutOfRange = 12,
 }
 
-// The answer of an operation that has no value of its own.
-#[derive(Clone, Copy)]
-pub enum Answer {
-    Done,
-    Refused(Refusal),
-}
+impl From<Refusal> for u32 {
+    ghost from_gives = { λ refusal number. number ≡ number_of refusal };
 
-// The refusal's number, 1 to 12.
-pub fn number(refusal: Refusal) -> u32
-    ensures { result ≡ number_of refusal }
-{
-    match refusal {
-        Refusal::SliceLength => 1,
-        Refusal::WordNotBelowP => 2,
-        Refusal::RowCount => 3,
-        Refusal::DifferenceTooLarge => 4,
-        Refusal::ChunkLengthZero => 5,
-        Refusal::ZeroDenominator => 6,
-        Refusal::UnknownCommand => 7,
-        Refusal::BatchCutOff => 8,
-        Refusal::CommandOutOfPlace => 9,
-        Refusal::CommandOutOfOrder => 10,
-        Refusal::UndecodableRow => 11,
-        Refusal::HeightOutOfRange => 12,
+    fn from(refusal: Refusal) -> u32 {
+        refusal as u32
     }
 }
 
 // 0, or the refusal's number.
-pub fn answer_number(answer: Answer) -> u32
+pub fn answer_number(answer: Result<(), Refusal>) -> u32
     ensures { result ≡ answer_number_of answer }
 {
     match answer {
-        Answer::Done => 0,
-        Answer::Refused(refusal) => number(refusal),
+        Ok(()) => 0,
+        Err(refusal) => u32::from(refusal),
     }
 }

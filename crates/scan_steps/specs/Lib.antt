@@ -2,3 +2,4 @@
 pub mod Maps
 pub mod Scan
 pub mod Chunks
+pub mod Laws

@@ -1,9 +1,7 @@
 -- What reading the input answers.
-use Rattle.std.specs.Prelude.{ℕ, ◌≤◌}
-use Rattle.standard_input.specs.declared.Input.{Input}
-use Rattle.standard_input.specs.declared.Input.TheVariants.{Bytes, Unreadable}
+use Rattle.std.specs.Prelude.{ℕ, ◌≤◌, Result, Ok, Err}
 
 -- the bytes that were read lie within a buffer of `most`
-abbrev pub Within : Input → ℕ → Type 0
-Within (Bytes n) most = n ≤ most
-Within Unreadable most = Unit {0}
+abbrev pub Within : {E : Type 0} → Result ℕ E → ℕ → Type 0
+Within (Ok n) most = n ≤ most
+Within (Err e) most = Unit {0}

@@ -8,11 +8,11 @@ use lib.ListN.{length}
 use borrow.Author.Tests.{ltb-false, leb-true, eqb-true, not-false}
 use Rattle.field_base.proofs.Below.{and-true}
 use Rattle.refusal.specs.Long.{is_long}
-use Rattle.refusal.specs.declared.Answer.TheVariants.{Done}
 use Rattle.table_rows.specs.Rows.{whole_rows, rows}
 use Rattle.table_fill.specs.Fill.{all_under, fill_tests, fill_answer}
 use Rattle.refusal.proofs.Answers.{or-false}
 use Rattle.refusal.proofs.First.{done_exactly}
+use Rattle.refusal.specs.Number.{Done}
 
 -- what is needed to write
 pub record Accepted (trace op_stack ram jump_stack table : List ℕ) : Type 0 where

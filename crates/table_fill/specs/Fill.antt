@@ -1,11 +1,11 @@
 -- Fill: the trace, with each row's multiplicity counted from the three difference lists.
-use Rattle.std.specs.Prelude.{Bool, true, cond, not, ◌&&◌, ◌||◌, List, [], ◌∷◌, ◌++◌, ℕ, ◌+◌, eqb, ltb, length, drop, set}
+use Rattle.std.specs.Prelude.{Bool, true, cond, not, ◌&&◌, ◌||◌, List, [], ◌∷◌, ◌++◌, ℕ, ◌+◌, eqb, ltb, length, drop, set, Result}
 use Rattle.field_base.specs.Words.{all_below}
 use Rattle.refusal.specs.Tests.{on_done, is_long, Tests, ◌when◌, ◌unless◌, first}
-use Rattle.refusal.specs.declared.Answer.{Answer}
 use Rattle.refusal.specs.declared.Refusal.TheVariants.{SliceLength, RowCount, WordNotBelowP, DifferenceTooLarge}
 use Rattle.air.specs.MainColumn.{CLOCK-JUMP-DIFFERENCE-LOOKUP-MULTIPLICITY}
 use Rattle.table_rows.specs.Rows.{whole_rows, rows, row_at, rows_from}
+use Rattle.refusal.specs.declared.Refusal.{Refusal}
 
 -- how often c stands in a list
 unfoldable pub count : ℕ → List ℕ → ℕ
@@ -31,7 +31,7 @@ fill_tests trace op_stack ram jump_stack table =
     ∷ (DifferenceTooLarge unless all_under (rows trace) op_stack && all_under (rows trace) ram && all_under (rows trace) jump_stack)
     ∷ []
 
-unfoldable pub fill_answer : List ℕ → List ℕ → List ℕ → List ℕ → List ℕ → Answer
+unfoldable pub fill_answer : List ℕ → List ℕ → List ℕ → List ℕ → List ℕ → Result (Unit {0}) Refusal
 unfolding all_under
 fill_answer trace op_stack ram jump_stack table = first (fill_tests trace op_stack ram jump_stack table)
 

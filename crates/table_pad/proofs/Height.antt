@@ -1,11 +1,8 @@
 -- A power of two is tried only after the one below did not hold the rows.
-use mathlib.Core.Path.{◌≡◌, refl, sym}
-use mathlib.Core.Bool.{Bool, true, false, cond}
-use Prim.Native.Nat.{ℕ, zero, suc, ◌+◌, ◌*◌, ◌^◌, ◌≤◌, ◌<◌}
-use native.Mathlib.Nat.{pow-suc, pow-le-pow_right, lt_irrefl, lt_of_lt_of_le, le_trans, add-zero}
-use native.Mathlib.Omega.{arith}
-use lib.Dec.{leb, lit<}
-use borrow.Author.Tests.{leb-true, leb-false}
+use Rattle.std.proofs.Common.{◌≡◌, ℕ, zero, suc, ◌+◌, ◌*◌, ◌/◌, ◌^◌, ◌≤◌, ◌<◌, min, max, Bool, true, false, cond, leb, refl, sym, ◌∙◌, lit<, lit≤, arith, add-zero}
+use native.Mathlib.Nat.{pow-suc, pow-le-pow_right, lt_irrefl, lt_of_lt_of_le, le_trans}
+use borrow.Author.Tests.{leb-true, leb-false, le-leb, lt-leb}
+use Rattle.std.specs.Int.{IsPowerOfTwo}
 use Rattle.table_pad.specs.Height.{doubled, height, Smallest, HeightIsSmallest}
 
 module _ (rows : ℕ) where
@@ -34,3 +31,21 @@ module _ (rows : ℕ) where
 pub height_is_smallest : HeightIsSmallest
 unfolding height
 height_is_smallest rows h = smallest_from rows 4 0 h (λ i l. let one : 1 ≤ suc i = omega arith in pow-le-pow_right {n = 2} (lit< tt) {i = 1} {j = suc i} one)
+
+-- the power of two that holds a number of rows from 2 to 32
+height_of : (rows k : ℕ) → max 2 (min rows 32) ≤ 2 ^ k → 2 ^ k / 2 < max 1 (max 2 (min rows 32)) → (2 ^ k ≡ height rows) × (2 ^ k ≤ 32)
+unfolding height doubled
+height_of rows zero h l = absurd (omega arith)
+height_of rows (suc zero) h l = (rw (le-leb rows 2 (omega arith)), lit≤ tt)
+height_of rows (suc (suc zero)) h l = (rw (lt-leb rows 2 (omega arith), le-leb rows 4 (omega arith)), lit≤ tt)
+height_of rows (suc (suc (suc zero))) h l = (rw (lt-leb rows 2 (omega arith), lt-leb rows 4 (omega arith), le-leb rows 8 (omega arith)), lit≤ tt)
+height_of rows (suc (suc (suc (suc zero)))) h l =
+    (rw (lt-leb rows 2 (omega arith), lt-leb rows 4 (omega arith), lt-leb rows 8 (omega arith), le-leb rows 16 (omega arith)), lit≤ tt)
+height_of rows (suc (suc (suc (suc (suc zero))))) h l =
+    (rw (lt-leb rows 2 (omega arith), lt-leb rows 4 (omega arith), lt-leb rows 8 (omega arith), lt-leb rows 16 (omega arith)), lit≤ tt)
+height_of rows (suc (suc (suc (suc (suc (suc k)))))) h l =
+    let high : 64 ≤ 2 ^ suc (suc (suc (suc (suc (suc k))))) = pow-le-pow_right {n = 2} (lit< tt) {i = 6} (omega arith) in
+    absurd (omega arith)
+
+pub height_is : (rows n : ℕ) → IsPowerOfTwo n → max 2 (min rows 32) ≤ n → n / 2 < max 1 (max 2 (min rows 32)) → (n ≡ height rows) × (2 ≤ n) × (n ≤ 32)
+height_is rows n (k, e) h l = let at = height_of rows k (rw e at h) (rw e at l) in (e ∙ at.0, omega arith, omega (arith, e))

@@ -10,7 +10,6 @@ use lib.ListN.{length, take, drop, get_or, set, length-set, length-take, length-
 use lib.Seq.{set-set, set_at, take-suc, drop-cons, get_or-take, get_or-drop, length-take-le, paste, paste-suc}
 use borrow.Author.Tests.{ltb-false, leb-true, eqb-true, eqb-false, not-false, lt-ltb, le-ltb}
 use Rattle.refusal.specs.Long.{is_long}
-use Rattle.refusal.specs.declared.Answer.TheVariants.{Done}
 use Rattle.air.specs.MainColumn.{CLK}
 use Rattle.table_rows.specs.Rows.{rows, row_at, rows_from}
 use Rattle.table_rows.specs.Writes.{with_row, with_rows}
@@ -18,6 +17,7 @@ use Rattle.table_pad.specs.Pad.{pad_tests, pad_answer, padding_row, padded_row}
 use Rattle.refusal.proofs.Answers.{or-false}
 use Rattle.refusal.proofs.First.{done_exactly}
 use Rattle.table_rows.proofs.Rows.{split_rows, same_rows, rows_of, replace_next, row_of_put}
+use Rattle.refusal.specs.Number.{Done}
 
 -- a table whose shape is not refused
 pub record Shaped (table : List ℕ) (len : ℕ) : Type 0 where

@@ -1,12 +1,12 @@
 -- Pad: the last row of the trace copied downward, and row 1's multiplicity grown by the number of padding rows.
-use Rattle.std.specs.Prelude.{cond, ◌||◌, List, [], ◌∷◌, ℕ, ◌-◌, ◌*◌, eqb, ltb, take, set}
+use Rattle.std.specs.Prelude.{cond, ◌||◌, List, [], ◌∷◌, ℕ, ◌-◌, ◌*◌, eqb, ltb, take, set, Result}
 use Rattle.field_base.specs.Words.{all_below}
 use Rattle.refusal.specs.Tests.{on_done, is_long, Tests, ◌when◌, ◌unless◌, first}
-use Rattle.refusal.specs.declared.Answer.{Answer}
 use Rattle.refusal.specs.declared.Refusal.TheVariants.{SliceLength, RowCount, WordNotBelowP}
 use Rattle.air.specs.MainColumn.{CLK, IS-PADDING, CLOCK-JUMP-DIFFERENCE-LOOKUP-MULTIPLICITY, MAIN-WIDTH}
 use Rattle.table_rows.specs.Rows.{whole_rows, rows, row_at, rows_from}
 use Rattle.table_rows.specs.Writes.{raised}
+use Rattle.refusal.specs.declared.Refusal.{Refusal}
 
 -- "1 unless the table is whole rows; 3 if rows are under 2 or long, or table_len is 0 or above rows; 2 in the first table_len rows."
 abbrev pub pad_tests : List ℕ → ℕ → Tests
@@ -16,7 +16,7 @@ pad_tests table len =
     ∷ (WordNotBelowP unless all_below (take (len * MAIN-WIDTH) table))
     ∷ []
 
-unfoldable pub pad_answer : List ℕ → ℕ → Answer
+unfoldable pub pad_answer : List ℕ → ℕ → Result (Unit {0}) Refusal
 pad_answer table len = first (pad_tests table len)
 
 -- a row like `last` with IsPadding 1, multiplicity 0 and CLK c

@@ -5,7 +5,7 @@ use Prim.Native.Nat.{ℕ, zero, suc, ◌+◌, ◌-◌, ◌*◌, ◌≤◌, ◌<�
 use native.Mathlib.Nat.{zero-add, add-zero, suc-add, suc-mul, add-mul, zero-mul}
 use native.Mathlib.Omega.{arith}
 use lib.ListN.{length, take, drop, get_or, set, length-append, length-drop, take-append-drop, drop_of_length-le, get_or-append}
-use lib.Seq.{sets, sets-eq, paste, take-paste, drop-paste, take_all, take-add, drop-drop, length-take-le, take_at, drop_at, get_or-append-add, set-append_left}
+use lib.Seq.{sets, sets-eq, take_all, take-add, drop-drop, length-take-le, take_at, drop_at, get_or-append-add, set-append_left}
 use Rattle.table_rows.specs.Rows.{row_at, rows_from}
 use Rattle.table_rows.specs.Writes.{with_row, with_rows}
 
@@ -45,23 +45,6 @@ rows_of table c (suc n) =
     let e₁ : suc n * 39 ≡ 39 + n * 39 = omega arith in
     let e₂ : suc c * 39 ≡ c * 39 + 39 = omega arith in
     rw (rows_of table (suc c) n, e₁, take-add, drop-drop, e₂)
-
--- n words copied to where they stand in another list, and then the next m
-pub paste_on : (from to : List ℕ) (at n m : ℕ) → at + n ≤ length from → at + n ≤ length to
-    → paste (paste to at (drop at from) n) (at + n) (drop (at + n) from) m ≡ paste to at (drop at from) (n + m)
-paste_on from to at n m hf ht =
-    let room : at ≤ length to = omega arith in
-    let some : n ≤ length (drop at from) = simp length-drop (omega arith) in
-    let end : at + (n + m) ≡ at + n + m = omega arith in
-    rw (
-      ← drop-drop m (at + n) (paste to at (drop at from) n),
-      take-paste to at (drop at from) n room some,
-      drop-paste to at (drop at from) n room some,
-      drop-drop,
-      end,
-      take-add n m (drop at from),
-      drop-drop,
-    ) (simp append_assoc)
 
 -- n rows from row c on have `width` words each
 abbrev pub Whole : ℕ → (ℕ → List ℕ) → ℕ → ℕ → Type 0

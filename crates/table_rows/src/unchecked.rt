@@ -1,6 +1,5 @@
 // Rows by their index; the caller proves that the table reaches that far.
-ghost use Rattle.std.specs.Prelude.{◌≡◌, [], ◌∷◌, ◌+◌, ◌*◌, ◌≤◌, ◌<◌, length, drop};
-ghost use Rattle.std.proofs.Math.Seq.{paste};
+ghost use Rattle.std.specs.Prelude.{◌≡◌, [], ◌∷◌, ◌+◌, ◌*◌, ◌≤◌, ◌<◌, length};
 ghost use Rattle.refusal.specs.Long.{MAX-LEN};
 ghost use Rattle.air.specs.MainColumn.{MAIN-WIDTH};
 ghost use Rattle.table_rows.specs.Rows.{rows, row_at, row_before, started_chunks};
@@ -8,18 +7,13 @@ ghost use Rattle.table_rows.specs.Writes.{with_row, raised};
 
 use air::MainIndex;
 
+// Word by word: where such a row is only read, the compiler makes no copy of it.
 pub fn row(table: &[u64], c: usize) -> [u64; MainIndex::COUNT]
     requires { (c + 1) * MAIN-WIDTH ≤ length table.now }
     ensures { result ≡ row_at table.now c }
 {
     let at = c * MainIndex::COUNT;
-    let mut row = [0u64; MainIndex::COUNT];
-    let mut i: usize = 0;
-    while i < MainIndex::COUNT {
-        row[i] = table[at + i];
-        i += 1;
-    }
-    row
+    std::array::from_fn(|i| table[at + i])
 }
 
 // A row where it stands.
@@ -54,41 +48,19 @@ pub fn put_row(table: &mut [u64], c: usize, row: [u64; MainIndex::COUNT])
     requires { (c + 1) * MAIN-WIDTH ≤ length table.old }
     ensures { table.new ≡ with_row MAIN-WIDTH table.old c row }
 {
-    let at = c * MainIndex::COUNT;
-    let mut i: usize = 0;
-    while i < MainIndex::COUNT {
-        table[at + i] = row[i];
-        i += 1;
-    }
+    let start = c * MainIndex::COUNT;
+    let end = start + MainIndex::COUNT;
+    table[start..end].copy_from_slice(&row);
 }
 
-// Row c of one table into another, a third at a time: 13 words are copied in place, and more by a call.
+// Row c of one table into another.
 pub fn copy_row(from: &[u64], to: &mut [u64], c: usize)
     requires { ((c + 1) * MAIN-WIDTH ≤ length from.now) × ((c + 1) * MAIN-WIDTH ≤ length to.old) }
     ensures { to.new ≡ with_row MAIN-WIDTH to.old c (row_at from.now c) }
 {
-    let at = c * MainIndex::COUNT;
-    copy_third(from, to, at);
-    copy_third(from, to, at + 13);
-    copy_third(from, to, at + 26);
-}
-
-// 13 words, by way of an array: that the two slices lie apart is nothing that the compiler knows.
-fn copy_third(from: &[u64], to: &mut [u64], at: usize)
-    requires { (at + 13 ≤ length from.now) × (at + 13 ≤ length to.old) }
-    ensures { to.new ≡ paste to.old at (drop at from.now) 13 }
-{
-    let mut third = [0u64; 13];
-    let mut i: usize = 0;
-    while i < 13 {
-        third[i] = from[at + i];
-        i += 1;
-    }
-    let mut j: usize = 0;
-    while j < 13 {
-        to[at + j] = third[j];
-        j += 1;
-    }
+    let start = c * MainIndex::COUNT;
+    let end = start + MainIndex::COUNT;
+    to[start..end].copy_from_slice(&from[start..end]);
 }
 
 // Row c's multiplicity grows, modulo p.
@@ -105,9 +77,5 @@ pub fn started_chunks(rows: usize, chunk: usize) -> usize
     requires { 0 < chunk }
     ensures { (result ≡ started_chunks rows chunk) × (result ≤ rows) }
 {
-    let whole = rows / chunk;
-    if rows % chunk == 0 {
-        return whole;
-    }
-    whole + 1
+    rows.div_ceil(chunk)
 }

@@ -17,7 +17,6 @@ ghost use Rattle.extend_answer.specs.Answer.{extend_answer};
 ghost use Rattle.extend_answer.specs.Strict.{strict_answer};
 ghost use Rattle.extend.specs.Extend.{extend_aux, extend_work, strict_aux, strict_work};
 ghost use Rattle.check_columns.specs.Check.{check_answer};
-ghost use Rattle.batch.specs.Open.{open_number};
 ghost use Rattle.batch_writer.specs.Contents.{contents_of};
 ghost use Rattle.batch_writer.specs.Write.{write_answer, write_batch};
 ghost use Rattle.terminals_batch.specs.Into.{terminals_into, cells_into};
@@ -25,9 +24,11 @@ ghost use Rattle.tealbobbin_answers.specs.Open.{slices, open_into, slices_after}
 ghost use Rattle.tealbobbin_answers.specs.Write.{told_form};
 ghost use Rattle.tealbobbin_answers.specs.Decode.{decode_number_into, decode_into};
 ghost use Rattle.tealbobbin_answers.specs.Check.{check_number_into, check_into};
-ghost use Rattle.tealbobbin_answers.specs.Field.{base_number_into, base_into, unary_number, unary_out, binary_number, binary_out};
+ghost use Rattle.tealbobbin_answers.specs.Field.{base_number_into, base_into, element_in, elements_in, unary_number, unary_out, binary_number, binary_out};
 
 use challenges::Challenges;
+use field::XFieldElement;
+use refusal::Refusal;
 use tealbobbin_answers::unchecked::{put_counts, put_place, put_verdict};
 use tealbobbin_answers::{put_base, put_decoded, put_element, told_form};
 
@@ -94,71 +95,64 @@ pub fn tealbobbin_montgomery_inverse(a: u64, out: &mut [u64]) -> u32
     put_base(field_montgomery::inverse(a), out)
 }
 
+// The element in a slice of three words.
+fn element_in(words: &[u64]) -> Result<XFieldElement, Refusal>
+    ensures { result ≡ element_in words.now }
+{
+    match *words {
+        [c0, c1, c2] => Ok(XFieldElement { c0, c1, c2 }),
+        _ => Err(Refusal::SliceLength),
+    }
+}
+
+fn elements_in(a: &[u64], b: &[u64]) -> Result<(XFieldElement, XFieldElement), Refusal>
+    ensures { result ≡ elements_in a.now b.now }
+{
+    Ok((element_in(a)?, element_in(b)?))
+}
+
 pub fn tealbobbin_element_add(a: &[u64], b: &[u64], out: &mut [u64]) -> u32
     ensures number { result ≡ binary_number element_add a.now b.now out.old }
     ensures written { out.new ≡ binary_out element_add a.now b.now out.old }
 {
-    if a.len() != 3 {
-        return 1;
-    }
-    if b.len() != 3 {
-        return 1;
-    }
-    let x = field::unchecked::element_at(a, 0);
-    let y = field::unchecked::element_at(b, 0);
-    put_element(field::element_add(x, y), out)
+    put_element(
+        elements_in(a, b).and_then(|(x, y)| field::element_add(x, y)),
+        out,
+    )
 }
 
 pub fn tealbobbin_element_sub(a: &[u64], b: &[u64], out: &mut [u64]) -> u32
     ensures number { result ≡ binary_number element_sub a.now b.now out.old }
     ensures written { out.new ≡ binary_out element_sub a.now b.now out.old }
 {
-    if a.len() != 3 {
-        return 1;
-    }
-    if b.len() != 3 {
-        return 1;
-    }
-    let x = field::unchecked::element_at(a, 0);
-    let y = field::unchecked::element_at(b, 0);
-    put_element(field::element_sub(x, y), out)
+    put_element(
+        elements_in(a, b).and_then(|(x, y)| field::element_sub(x, y)),
+        out,
+    )
 }
 
 pub fn tealbobbin_element_mul(a: &[u64], b: &[u64], out: &mut [u64]) -> u32
     ensures number { result ≡ binary_number element_mul a.now b.now out.old }
     ensures written { out.new ≡ binary_out element_mul a.now b.now out.old }
 {
-    if a.len() != 3 {
-        return 1;
-    }
-    if b.len() != 3 {
-        return 1;
-    }
-    let x = field::unchecked::element_at(a, 0);
-    let y = field::unchecked::element_at(b, 0);
-    put_element(field::element_mul(x, y), out)
+    put_element(
+        elements_in(a, b).and_then(|(x, y)| field::element_mul(x, y)),
+        out,
+    )
 }
 
 pub fn tealbobbin_element_scale(k: u64, a: &[u64], out: &mut [u64]) -> u32
     ensures number { result ≡ unary_number (element_scale k) a.now out.old }
     ensures written { out.new ≡ unary_out (element_scale k) a.now out.old }
 {
-    if a.len() != 3 {
-        return 1;
-    }
-    let x = field::unchecked::element_at(a, 0);
-    put_element(field::element_scale(k, x), out)
+    put_element(element_in(a).and_then(|x| field::element_scale(k, x)), out)
 }
 
 pub fn tealbobbin_element_inverse(a: &[u64], out: &mut [u64]) -> u32
     ensures number { result ≡ unary_number element_inverse a.now out.old }
     ensures written { out.new ≡ unary_out element_inverse a.now out.old }
 {
-    if a.len() != 3 {
-        return 1;
-    }
-    let x = field::unchecked::element_at(a, 0);
-    put_element(field::element_inverse(x), out)
+    put_element(element_in(a).and_then(field::element_inverse), out)
 }
 
 // Into `out` go two words: 1 and the opcode; 0 and 0 where no instruction has the opcode; 2 or 3 and the opcode where the argument is
@@ -281,7 +275,7 @@ pub fn tealbobbin_check(
         (check_answer main.now challenges.now offered.now) }
 {
     if verdict.len() != 1 {
-        return 1;
+        return u32::from(Refusal::SliceLength);
     }
     put_verdict(check_columns::check(main, challenges, offered), verdict)
 }
@@ -299,12 +293,13 @@ pub fn tealbobbin_check_at(
         (check_answer main.now challenges.now offered.now) }
 {
     if verdict.len() != 3 {
-        return 1;
+        return u32::from(Refusal::SliceLength);
     }
     put_place(check_columns::check(main, challenges, offered), verdict)
 }
 
 // Opens a batch: rows and words into the slices, how many into `counts`.
+#[tactic(auto, unfolding(tealbobbin_answers::specs::Open::open_into, batch::specs::Open::open_slice))]
 pub fn tealbobbin_open(
     batch: &[u8],
     trace: &mut [u64],
@@ -317,7 +312,7 @@ pub fn tealbobbin_open(
     output: &mut [u64],
     counts: &mut [u64],
 ) -> u32
-    ensures number { result ≡ open_number (open_into batch.now
+    ensures number { result ≡ answer_number_of (open_into batch.now
         (slices trace.old op_stack.old ram.old jump_stack.old sampled.old
         digest.old input.old output.old counts.old)) }
     ensures slices { slices trace.new op_stack.new ram.new jump_stack.new sampled.new
@@ -327,7 +322,7 @@ pub fn tealbobbin_open(
         digest.old input.old output.old counts.old) }
 {
     if counts.len() != 7 {
-        return 1;
+        return u32::from(Refusal::SliceLength);
     }
     let answer = batch::open(
         batch, trace, op_stack, ram, jump_stack, sampled, digest, input, output,

@@ -1,10 +1,17 @@
--- Decoding into a slice of two words: 1 if it has another length, then what decoding answers.
-use Rattle.std.specs.Prelude.{cond, List, ℕ, eqb, length}
-use Rattle.isa_decoding.specs.Answer.{answer_number, answer_words}
-use Rattle.isa_decoding.specs.declared.DecodeAnswer.{DecodeAnswer}
+-- Decoding into a slice of two words.
+use Rattle.std.specs.Prelude.{List, ℕ, Result}
+use Rattle.isa_decoding.specs.Answer.{decoded_words}
+use Rattle.tealbobbin_answers.specs.Into.{written, number_into, into}
+use Rattle.refusal.specs.declared.Refusal.{Refusal}
+use Rattle.isa.specs.declared.Instruction.{Instruction}
+use Rattle.isa_decoding.specs.declared.Undecodable.{Undecodable}
 
-abbrev pub decode_number_into : List ℕ → DecodeAnswer → ℕ
-decode_number_into out answer = cond (eqb (length out) 2) (answer_number answer) 1
+-- its two words, in the place of what `out` held
+abbrev pub answer_words : Result (Result Instruction Undecodable) Refusal → List ℕ → List ℕ
+answer_words answer out = written decoded_words out answer
 
-abbrev pub decode_into : List ℕ → DecodeAnswer → List ℕ
-decode_into out answer = cond (eqb (length out) 2) (answer_words answer out) out
+abbrev pub decode_number_into : List ℕ → Result (Result Instruction Undecodable) Refusal → ℕ
+decode_number_into out answer = number_into 2 out answer
+
+abbrev pub decode_into : List ℕ → Result (Result Instruction Undecodable) Refusal → List ℕ
+decode_into out answer = into 2 decoded_words out answer

@@ -1,22 +1,21 @@
 -- The field's operations over slices: 1 if a slice has another length than an element or a word, then the operation's answer.
-use Rattle.std.specs.Prelude.{Bool, cond, List, [], ◌∷◌, ℕ, eqb, length}
-use Rattle.field_base.specs.Answers.{base_number}
-use Rattle.field_base.specs.declared.BaseAnswer.{BaseAnswer}
-use Rattle.field_base.specs.declared.BaseAnswer.TheVariants as base-answer
-use Rattle.field.specs.Answers.{element_number}
+use Rattle.std.specs.Prelude.{Bool, cond, List, [], ◌∷◌, ℕ, eqb, length, Result, Ok, Err}
 use Rattle.field.specs.Element.{element_at, words_of}
 use Rattle.field.specs.declared.XFieldElement.{XFieldElement}
-use Rattle.field.specs.declared.ElementAnswer.{ElementAnswer}
-use Rattle.field.specs.declared.ElementAnswer.TheVariants as element-answer
+use Rattle.refusal.specs.declared.Refusal.{Refusal}
+use Rattle.refusal.specs.declared.Refusal.TheVariants.{SliceLength}
+use Rattle.tealbobbin_answers.specs.Into.{written, number_into, into}
+
+-- a word alone
+abbrev pub word_alone : ℕ → List ℕ
+word_alone w = w ∷ []
 
 -- the word of an answer, in the place of what `out` held
-abbrev pub base_written : List ℕ → BaseAnswer → List ℕ
-base_written out (base-answer.Word w) = w ∷ []
-base_written out (base-answer.Refused r) = out
+abbrev pub base_written : List ℕ → Result ℕ Refusal → List ℕ
+base_written out answer = written word_alone out answer
 
-abbrev pub element_written : List ℕ → ElementAnswer → List ℕ
-element_written out (element-answer.Element e) = words_of e
-element_written out (element-answer.Refused r) = out
+abbrev pub element_written : List ℕ → Result XFieldElement Refusal → List ℕ
+element_written out answer = written words_of out answer
 
 abbrev pub is_word : List ℕ → Bool
 is_word l = eqb (length l) 1
@@ -24,27 +23,34 @@ is_word l = eqb (length l) 1
 abbrev pub is_element : List ℕ → Bool
 is_element l = eqb (length l) 3
 
-abbrev pub base_number_into : List ℕ → BaseAnswer → ℕ
-base_number_into out answer = cond (is_word out) (base_number answer) 1
+-- an element in a slice, and one in each of two
+abbrev pub element_in : List ℕ → Result XFieldElement Refusal
+element_in l = cond (is_element l) (Ok (element_at l 0)) (Err SliceLength)
 
-abbrev pub base_into : List ℕ → BaseAnswer → List ℕ
-base_into out answer = cond (is_word out) (base_written out answer) out
+abbrev pub elements_in : List ℕ → List ℕ → Result (XFieldElement × XFieldElement) Refusal
+elements_in a b = cond (is_element a) (cond (is_element b) (Ok (element_at a 0, element_at b 0)) (Err SliceLength)) (Err SliceLength)
 
-abbrev pub element_number_into : List ℕ → ElementAnswer → ℕ
-element_number_into out answer = cond (is_element out) (element_number answer) 1
+abbrev pub base_number_into : List ℕ → Result ℕ Refusal → ℕ
+base_number_into out answer = number_into 1 out answer
 
-abbrev pub element_into : List ℕ → ElementAnswer → List ℕ
-element_into out answer = cond (is_element out) (element_written out answer) out
+abbrev pub base_into : List ℕ → Result ℕ Refusal → List ℕ
+base_into out answer = into 1 word_alone out answer
+
+abbrev pub element_number_into : List ℕ → Result XFieldElement Refusal → ℕ
+element_number_into out answer = number_into 3 out answer
+
+abbrev pub element_into : List ℕ → Result XFieldElement Refusal → List ℕ
+element_into out answer = into 3 words_of out answer
 
 -- an operation on one element and on two
-abbrev pub unary_number : (XFieldElement → ElementAnswer) → List ℕ → List ℕ → ℕ
+abbrev pub unary_number : (XFieldElement → Result XFieldElement Refusal) → List ℕ → List ℕ → ℕ
 unary_number f a out = cond (is_element a) (element_number_into out (f (element_at a 0))) 1
 
-abbrev pub unary_out : (XFieldElement → ElementAnswer) → List ℕ → List ℕ → List ℕ
+abbrev pub unary_out : (XFieldElement → Result XFieldElement Refusal) → List ℕ → List ℕ → List ℕ
 unary_out f a out = cond (is_element a) (element_into out (f (element_at a 0))) out
 
-abbrev pub binary_number : (XFieldElement → XFieldElement → ElementAnswer) → List ℕ → List ℕ → List ℕ → ℕ
+abbrev pub binary_number : (XFieldElement → XFieldElement → Result XFieldElement Refusal) → List ℕ → List ℕ → List ℕ → ℕ
 binary_number f a b out = cond (is_element a) (unary_number (f (element_at a 0)) b out) 1
 
-abbrev pub binary_out : (XFieldElement → XFieldElement → ElementAnswer) → List ℕ → List ℕ → List ℕ → List ℕ
+abbrev pub binary_out : (XFieldElement → XFieldElement → Result XFieldElement Refusal) → List ℕ → List ℕ → List ℕ → List ℕ
 binary_out f a b out = cond (is_element a) (unary_out (f (element_at a 0)) b out) out

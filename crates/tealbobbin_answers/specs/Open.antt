@@ -1,10 +1,11 @@
 -- Open at the ABI: `counts` is to have seven words, else 1 and nothing is opened.
-use Rattle.std.specs.Prelude.{cond, List, ℕ, eqb, length}
+use Rattle.std.specs.Prelude.{cond, List, ℕ, eqb, length, Result, Ok, Err}
 use Rattle.refusal.specs.declared.Refusal.TheVariants.{SliceLength}
 use Rattle.batch_commands.specs.Format.{ROW, OP-STACK, RAM, JUMP-STACK, SAMPLED, DIGEST, INPUT, OUTPUT}
-use Rattle.batch_reader.specs.declared.OpenAnswer.{OpenAnswer}
-use Rattle.batch_reader.specs.declared.OpenAnswer.TheVariants.{Opened, Refused}
+use Rattle.tealbobbin_answers.specs.Into.{written}
 use Rattle.batch.specs.Open.{open_answer, open_counts, open_slice}
+use Rattle.refusal.specs.declared.Refusal.{Refusal}
+use Rattle.batch_reader.specs.declared.Counts.{Counts}
 
 -- what the nine lent slices hold
 pub record Slices : Type 0 where
@@ -32,19 +33,21 @@ slices trace op_stack ram jump_stack sampled digest input output counts =
       counts = counts;
     }
 
-unfoldable pub open_into : List ℕ → Slices → OpenAnswer
+unfoldable pub open_into : List ℕ → Slices → Result Counts Refusal
 open_into batch lent =
     cond (eqb (length lent.counts) 7)
     (open_answer batch (length lent.trace) (length lent.op_stack) (length lent.ram) (length lent.jump_stack) (length lent.sampled)
     (length lent.digest) (length lent.input) (length lent.output))
-    (Refused SliceLength)
+    (Err SliceLength)
 
-abbrev pub counts_into : OpenAnswer → List ℕ → List ℕ
-counts_into (Opened counts) held = open_counts (Opened counts)
-counts_into (Refused refusal) held = held
+abbrev pub count_words : Counts → List ℕ
+count_words counts = open_counts (Ok counts)
+
+abbrev pub counts_into : Result Counts Refusal → List ℕ → List ℕ
+counts_into answer held = written count_words held answer
 
 -- what the slices hold after an answer
-abbrev pub slices_by : OpenAnswer → List ℕ → Slices → Slices
+abbrev pub slices_by : Result Counts Refusal → List ℕ → Slices → Slices
 slices_by answer batch lent =
     record {
       trace = open_slice answer ROW batch lent.trace;

@@ -1,73 +1,53 @@
 // The caller lends a slice of the right length.
-ghost use Rattle.std.specs.Prelude.{◌≡◌, length};
-ghost use Rattle.batch.specs.Open.{open_number};
+ghost use Rattle.std.specs.Prelude.{◌≡◌, ℕ, List, length};
+ghost use Rattle.refusal.specs.Number.{answer_number_of};
+ghost use Rattle.tealbobbin_answers.specs.Into.{written};
 ghost use Rattle.tealbobbin_answers.specs.Open.{counts_into};
-ghost use Rattle.tealbobbin_answers.specs.Check.{check_number, verdict_words, check_written};
+ghost use Rattle.tealbobbin_answers.specs.Check.{check_written};
 
-use batch_reader::OpenAnswer;
-use check_columns::CheckAnswer;
-use check_relations::Verdict;
+use crate::{count_words, verdict_word, verdict_words};
+use batch_reader::Counts;
+use check_relations::Place;
+use refusal::Refusal;
 
-// Hands the counts of an opened batch out through a slice of seven words.
-pub fn put_counts(answer: OpenAnswer, counts: &mut [u64]) -> u32
-    requires { length counts.old ≡ 7 }
-    ensures number { result ≡ open_number answer }
-    ensures counts { counts.new ≡ counts_into answer counts.old }
+// Hands an answer's words out through a slice of as many.
+pub(crate) fn put<const N: usize>(answer: Result<[u64; N], Refusal>, out: &mut [u64]) -> u32
+    requires { length out.old ≡ N }
+    ensures number { result ≡ answer_number_of answer.entry }
+    ensures written { out.new ≡ written (λ (words : List ℕ). words) out.old answer.entry }
 {
     match answer {
-        OpenAnswer::Refused(refusal) => refusal::number(refusal),
-        OpenAnswer::Opened(opened) => {
-            counts[0] = opened.rows as u64;
-            counts[1] = opened.op_stack as u64;
-            counts[2] = opened.ram as u64;
-            counts[3] = opened.jump_stack as u64;
-            counts[4] = opened.input as u64;
-            counts[5] = opened.output as u64;
-            counts[6] = opened.log2_height as u64;
+        Ok(words) => {
+            out.copy_from_slice(&words);
             0
         }
+        Err(refusal) => u32::from(refusal),
     }
 }
 
-fn verdict_words(verdict: Verdict) -> [u64; 3]
-    ensures { result ≡ verdict_words verdict }
+// Hands the counts of an opened batch out through a slice of seven words.
+pub fn put_counts(answer: Result<Counts, Refusal>, counts: &mut [u64]) -> u32
+    requires { length counts.old ≡ 7 }
+    ensures number { result ≡ answer_number_of answer }
+    ensures counts { counts.new ≡ counts_into answer counts.old }
 {
-    match verdict {
-        Verdict::Yes => [1, 0, 0],
-        Verdict::No(row, column) => [0, row as u64, column.0 as u64],
-    }
+    put(answer.map(count_words), counts)
 }
 
 // Hands a verdict out through a slice of one word.
-pub fn put_verdict(answer: CheckAnswer, verdict: &mut [u64]) -> u32
+pub fn put_verdict(answer: Result<Option<Place>, Refusal>, verdict: &mut [u64]) -> u32
     requires { length verdict.old ≡ 1 }
-    ensures number { result ≡ check_number answer }
+    ensures number { result ≡ answer_number_of answer }
     ensures written { verdict.new ≡ check_written 1 verdict.old answer }
 {
-    match answer {
-        CheckAnswer::Refused(refusal) => refusal::number(refusal),
-        CheckAnswer::Checked(found) => {
-            let words = verdict_words(found);
-            verdict[0] = words[0];
-            0
-        }
-    }
+    put(answer.map(verdict_word), verdict)
 }
 
 // The same with the place of a no, through a slice of three words.
-pub fn put_place(answer: CheckAnswer, verdict: &mut [u64]) -> u32
+pub fn put_place(answer: Result<Option<Place>, Refusal>, verdict: &mut [u64]) -> u32
     requires { length verdict.old ≡ 3 }
-    ensures number { result ≡ check_number answer }
+    ensures number { result ≡ answer_number_of answer }
     ensures written { verdict.new ≡ check_written 3 verdict.old answer }
 {
-    match answer {
-        CheckAnswer::Refused(refusal) => refusal::number(refusal),
-        CheckAnswer::Checked(found) => {
-            let words = verdict_words(found);
-            verdict[0] = words[0];
-            verdict[1] = words[1];
-            verdict[2] = words[2];
-            0
-        }
-    }
+    put(answer.map(verdict_words), verdict)
 }

@@ -16,7 +16,6 @@ ghost use Rattle.extend_answer.specs.Answer.{extend_answer};
 ghost use Rattle.extend_answer.specs.Strict.{strict_answer};
 ghost use Rattle.extend.specs.Extend.{extend_aux, extend_work, strict_aux, strict_work};
 ghost use Rattle.check_columns.specs.Check.{check_answer};
-ghost use Rattle.batch.specs.Open.{open_number};
 ghost use Rattle.batch_writer.specs.Contents.{contents_of};
 ghost use Rattle.batch_writer.specs.Write.{write_answer, write_batch};
 ghost use Rattle.terminals_batch.specs.Into.{terminals_into, cells_into};
@@ -289,7 +288,7 @@ pub extern "C" fn tealbobbin_open(
     output: &mut [u64],
     counts: &mut [u64],
 ) -> u32
-    ensures number { result ≡ open_number (open_into batch.now
+    ensures number { result ≡ answer_number_of (open_into batch.now
         (slices trace.old op_stack.old ram.old jump_stack.old sampled.old
         digest.old input.old output.old counts.old)) }
     ensures slices { slices trace.new op_stack.new ram.new jump_stack.new sampled.new

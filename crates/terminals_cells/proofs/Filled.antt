@@ -2,16 +2,17 @@
 use mathlib.Core.Path.{◌≡◌, refl, sym, ap, ◌∙◌}
 use mathlib.Core.Bool.{Bool, true, false, cond, not, ◌&&◌, ◌||◌}
 use mathlib.Core.List.{List, ◌++◌, append_assoc}
-use Prim.Native.Nat.{ℕ, ◌+◌, ◌-◌, ◌*◌, ◌/◌, ◌≤◌, ◌<◌}
+use Prim.Native.Nat.{ℕ, ◌-◌, ◌*◌, ◌/◌, ◌≤◌, ◌<◌}
 use native.Mathlib.Omega.{arith}
 use lib.Dec.{ltb}
 use lib.ListN.{length, drop, length-append, length-drop, length-set}
 use borrow.Author.Tests.{ltb-true, ltb-false, le-leb, le-ltb}
+use Rattle.std.proofs.lemmas.List.{drop-append-le}
+use Rattle.std.specs.Prelude.{Result, Ok, Err}
 use Rattle.refusal.specs.Long.{is_long}
-use Rattle.refusal.specs.Number.{on_done}
-use Rattle.refusal.specs.declared.Answer.{Answer}
-use Rattle.refusal.specs.declared.Answer.TheVariants.{Done, Refused}
 use Rattle.refusal.specs.declared.Refusal.TheVariants.{SliceLength, RowCount, WordNotBelowP, DifferenceTooLarge}
+use Rattle.refusal.specs.Number.{Done, on_done}
+use Rattle.refusal.specs.declared.Refusal.{Refusal}
 use Rattle.field_base.specs.Words.{all_below}
 use Rattle.table_rows.specs.Rows.{whole_rows, rows, row_at, rows_from}
 use Rattle.table_rows.proofs.Rows.{length-row, length-rows}
@@ -19,7 +20,7 @@ use Rattle.table_fill.specs.Fill.{fill_answer, fill_table, filled, filled_row, m
 use Rattle.table_fill.proofs.Accepted.{Accepted, accepted}
 use Rattle.batch.specs.Lent.{zeros}
 use Rattle.terminals_cells.specs.Kept.{Kept, longer}
-use Rattle.terminals_cells.proofs.Longer.{drop-within, longer_rows, longer_whole, longer_same}
+use Rattle.terminals_cells.proofs.Longer.{longer_rows, longer_whole, longer_same}
 
 -- the table that goes on is the one at hand, or it holds the trace as that one does
 module _ (n : ℕ) (table : List ℕ) (height : ℕ) (kept : Kept n (rows table) height) where
@@ -36,15 +37,15 @@ module _ (n : ℕ) (table : List ℕ) (height : ℕ) (kept : Kept n (rows table)
       ap not (le-leb (rows (longer height table)) 4194304 (omega (arith, longer_rows height table whole kept.within, kept.short)) ∙ sym (le-leb (rows table) 4194304 (omega (arith, kept.within, kept.short))))
 
 module _ (trace op_stack ram jump_stack table : List ℕ) (height : ℕ) (whole : whole_rows table ≡ true) (kept : Kept (rows trace) (rows table) height) where
-  abbrev answer_in : List ℕ → Answer
+  abbrev answer_in : List ℕ → Result (Unit {0}) Refusal
   answer_in t = fill_answer trace op_stack ram jump_stack t
 
-  by_tests : Bool → Bool → Bool → Answer
+  by_tests : Bool → Bool → Bool → Result (Unit {0}) Refusal
   by_tests rows_whole long short =
-      cond (not (whole_rows trace && rows_whole) || is_long (length op_stack) || is_long (length ram) || is_long (length jump_stack)) (Refused SliceLength)
-      (cond (long || short) (Refused RowCount)
-      (cond (not (all_below trace && all_below op_stack && all_below ram && all_below jump_stack)) (Refused WordNotBelowP)
-      (cond (not (all_under (rows trace) op_stack && all_under (rows trace) ram && all_under (rows trace) jump_stack)) (Refused DifferenceTooLarge)
+      cond (not (whole_rows trace && rows_whole) || is_long (length op_stack) || is_long (length ram) || is_long (length jump_stack)) (Err SliceLength)
+      (cond (long || short) (Err RowCount)
+      (cond (not (all_below trace && all_below op_stack && all_below ram && all_below jump_stack)) (Err WordNotBelowP)
+      (cond (not (all_under (rows trace) op_stack && all_under (rows trace) ram && all_under (rows trace) jump_stack)) (Err DifferenceTooLarge)
       Done)))
 
   pub same_answer : answer_in (longer height table) ≡ answer_in table
@@ -72,7 +73,7 @@ module _ (trace op_stack ram jump_stack table : List ℕ) (height : ℕ) (whole 
   done_table a =
       let zs = zeros ((height - rows table) * 39) in
       let front = rows_from (filled_row trace counted) 0 (rows trace) in
-      ap (λ l. front ++ l) (drop-within (length trace) table zs (omega (arith, a.whole, a.fits)))
+      ap (λ l. front ++ l) (drop-append-le (length trace) table zs (omega (arith, a.whole, a.fits)))
       ∙ sym (append_assoc front (drop (length trace) table) zs)
       ∙ ap (λ (n : ℕ). (front ++ drop (length trace) table) ++ zeros ((height - n / 39) * 39)) (sym (filled_length a))
 
@@ -80,6 +81,6 @@ module _ (trace op_stack ram jump_stack table : List ℕ) (height : ℕ) (whole 
   unfolding fill_table
   same_table = ap (λ a. on_done a (filled trace counted (longer height table)) (longer height table)) same_answer ∙ go (answer_in table) refl
     where
-      go : (a : Answer) → answer_in table ≡ a → on_done a (filled trace counted (longer height table)) (longer height table) ≡ longer height (on_done a (filled trace counted table) table)
-      go Done e = done_table (accepted trace op_stack ram jump_stack table e)
-      go (Refused refusal) e = refl
+      go : (a : Result (Unit {0}) Refusal) → answer_in table ≡ a → on_done a (filled trace counted (longer height table)) (longer height table) ≡ longer height (on_done a (filled trace counted table) table)
+      go (Ok u) e = done_table (accepted trace op_stack ram jump_stack table e)
+      go (Err refusal) e = refl

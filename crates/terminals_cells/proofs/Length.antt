@@ -2,10 +2,10 @@
 use mathlib.Core.Path.{◌≡◌}
 use mathlib.Core.List.{List}
 use Prim.Native.Nat.{ℕ, ◌*◌}
-use native.Mathlib.Omega.{arith}
 use lib.ListN.{length, take}
-use Rattle.refusal.specs.declared.Answer.{Answer}
-use Rattle.refusal.specs.declared.Answer.TheVariants.{Done, Refused}
+use Rattle.std.specs.Prelude.{Result, Ok, Err}
+use Rattle.refusal.specs.declared.Refusal.{Refusal}
+use Rattle.refusal.specs.Number.{Done}
 use Rattle.air.specs.ChallengeId.{RECORD-WORDS}
 use Rattle.table_rows.specs.Rows.{rows}
 use Rattle.table_fill.specs.Fill.{fill_answer, fill_table}
@@ -15,15 +15,13 @@ use Rattle.challenges.specs.Derived.{challenges_answer, challenges_record}
 use Rattle.batch.specs.Open.{open_answer}
 use Rattle.batch.specs.Lent.{zeros}
 use Rattle.batch_reader.specs.declared.Counts.{Counts}
-use Rattle.batch_reader.specs.declared.OpenAnswer.{OpenAnswer}
-use Rattle.batch_reader.specs.declared.OpenAnswer.TheVariants.{Opened, Refused as NotOpened}
 use Rattle.terminals_extended.specs.Extended.{extended_answer}
 use Rattle.terminals_walk.proofs.LastRow as extended
 use Rattle.terminals_cells.specs.Terminals.{after, padded_answer, padded_cells, filled_answer, filled_cells, table_answer, table_cells, opened_answer, opened_cells, answer_after, cells_after, terminals_answer, terminals_cells}
 
-then_done : (a b : Answer) → after a b ≡ Done → b ≡ Done
-then_done Done b e = e
-then_done (Refused refusal) b e = let z : ◌≡◌ {A = ℕ} 0 1 = cc in absurd (omega arith)
+then_done : (a b : Result (Unit {0}) Refusal) → after a b ≡ Done → b ≡ Done
+then_done (Ok u) b e = e
+then_done (Err refusal) b e = cc
 
 padded_long : (table : List ℕ) (len : ℕ) (challenges : List ℕ) → padded_answer table len challenges ≡ Done → length (padded_cells table len challenges) ≡ 33
 unfolding padded_answer padded_cells
@@ -54,9 +52,9 @@ opened_long counts trace op_stack ram jump_stack sampled digest input output e =
     table_long rows-sent o r j derived counts.log2_height
     (then_done (challenges_answer sampled digest read wrote (zeros RECORD-WORDS)) (table_answer counts.log2_height rows-sent o r j derived) e)
 
-long_after : (a : OpenAnswer) (batch : List ℕ) → answer_after a batch ≡ Done → length (cells_after a batch) ≡ 33
-long_after (NotOpened refusal) batch e = let z : ◌≡◌ {A = ℕ} 0 1 = cc in absurd (omega arith)
-long_after (Opened counts) batch e = opened_long counts _ _ _ _ _ _ _ _ e
+long_after : (a : Result Counts Refusal) (batch : List ℕ) → answer_after a batch ≡ Done → length (cells_after a batch) ≡ 33
+long_after (Err refusal) batch e = cc
+long_after (Ok counts) batch e = opened_long counts _ _ _ _ _ _ _ _ e
 
 pub cells_long : (batch : List ℕ) → terminals_answer batch ≡ Done → length (terminals_cells batch) ≡ 33
 unfolding terminals_answer terminals_cells

@@ -7,11 +7,12 @@ use native.Mathlib.Omega.{arith}
 use lib.Dec.{eqb, ltb}
 use lib.ListN.{length, take, get_or, set, length-set}
 use borrow.Author.Tests.{ltb-true, ltb-false, eq-eqb, le-ltb}
+use Rattle.std.proofs.lemmas.List.{take-append-le}
+use Rattle.std.specs.Prelude.{Result, Err}
 use Rattle.algebra.specs.Modulus.{plus}
-use Rattle.refusal.specs.Number.{on_done}
-use Rattle.refusal.specs.declared.Answer.{Answer}
-use Rattle.refusal.specs.declared.Answer.TheVariants.{Done, Refused}
 use Rattle.refusal.specs.declared.Refusal.TheVariants.{SliceLength, RowCount, WordNotBelowP}
+use Rattle.refusal.specs.Number.{Done, on_done}
+use Rattle.refusal.specs.declared.Refusal.{Refusal}
 use Rattle.field_base.specs.Words.{all_below}
 use Rattle.table_rows.specs.Rows.{whole_rows, rows, row_at, rows_from}
 use Rattle.table_rows.specs.Writes.{raised}
@@ -21,21 +22,21 @@ use Rattle.table_pad.proofs.Padded.{Shaped, shaped, padding_again, padding_witho
 use Rattle.batch.specs.Lent.{zeros}
 use Rattle.terminals_walk.specs.Grown.{grown, EndsInPadding, Growing}
 use Rattle.terminals_cells.specs.Kept.{Kept, longer}
-use Rattle.terminals_cells.proofs.Longer.{take_within, row_within, length-table, longer_rows, longer_whole}
 use Rattle.terminals_cells.proofs.Filled.{all_at_hand, not_shorter, not_long}
 use Rattle.terminals_cells.proofs.Raised.{raised_rows, not_raised, raised_whole, raised_rows_lem, raised_twice}
+use Rattle.terminals_cells.proofs.Longer.{row_within, length-table, longer_rows, longer_whole}
 
 module _ (table : List ℕ) (len height : ℕ) (whole : whole_rows table ≡ true) (kept : Kept len (rows table) height) where
-  by_tests : Bool → Bool → Bool → Bool → Bool → Answer
+  by_tests : Bool → Bool → Bool → Bool → Bool → Result (Unit {0}) Refusal
   by_tests rows_whole few long short below =
-      cond (not rows_whole) (Refused SliceLength)
-      (cond (few || long || eqb len 0 || short) (Refused RowCount)
-      (cond (not below) (Refused WordNotBelowP)
+      cond (not rows_whole) (Err SliceLength)
+      (cond (few || long || eqb len 0 || short) (Err RowCount)
+      (cond (not below) (Err WordNotBelowP)
       Done))
 
   first_words : rows table < height → all_below (take (len * 39) (longer height table)) ≡ all_below (take (len * 39) table)
   unfolding longer
-  first_words h = ap all_below (take_within (len * 39) table (zeros ((height - rows table) * 39)) (omega (arith, kept.window h, length-table height table whole kept.within)))
+  first_words h = ap all_below (take-append-le (len * 39) table (zeros ((height - rows table) * 39)) (omega (arith, kept.window h, length-table height table whole kept.within)))
 
   two_rows : ltb (rows (longer height table)) 2 ≡ ltb (rows table) 2
   two_rows = le-ltb (rows (longer height table)) 2 (omega (arith, longer_rows height table whole kept.within, kept.two, kept.within)) ∙ sym (le-ltb (rows table) 2 kept.two)

@@ -12,37 +12,34 @@ ghost use Rattle.terminals_cells.specs.Kept.{Kept, longer};
 use air::{AUX_WORDS, MainIndex, RECORD_WORDS};
 use batch_reader::Counts;
 use challenges::Challenges;
-use refusal::Answer;
+use refusal::Refusal;
 use table_pad::unchecked::padded_height;
 use table_rows::unchecked::raise_multiplicity;
 use terminals_extended::unchecked::MAX_KEPT;
-use terminals_walk::unchecked::{rows_below, walked_cells};
+use terminals_walk::unchecked::walked_cells;
 
 // Of a table of `height` rows, `table` has the first ones.
+#[tactic(auto, using(crate::proofs::Padded::same_answer), unfolding(crate::specs::Terminals::padded_answer))]
 fn padded_cells(
     table: &mut [u64],
     table_len: usize,
     height: usize,
     challenges: &[u64],
     cells: &mut [u64; AUX_WORDS],
-) -> Answer
+) -> Result<(), Refusal>
     requires table_value { whole_rows table.old ≡ true }
     requires kept { Kept table_len (rows table.old) height }
     ensures answer { result ≡ padded_answer (longer height table.old) table_len challenges.now }
     ensures cells { cells.new ≡ on_done result (padded_cells (longer height table.old) table_len challenges.now) cells.old }
 {
-    let answer = table_pad::pad(table, table_len);
-    match answer {
-        Answer::Refused(refusal) => Answer::Refused(refusal),
-        Answer::Done => {
-            // Row 1 looks up for the padding rows that follow too, and its entry stands before theirs.
-            let more = rows_below(table.len() / MainIndex::COUNT, height);
-            raise_multiplicity(table, 1, more as u64);
-            walked_cells(table, height, challenges, cells)
-        }
-    }
+    table_pad::pad(table, table_len)?;
+    // Row 1 looks up for the padding rows that follow too, and its entry stands before theirs.
+    let more = height - table.len() / MainIndex::COUNT;
+    raise_multiplicity(table, 1, more as u64);
+    walked_cells(table, height, challenges, cells)
 }
 
+#[tactic(auto, using(crate::proofs::Filled::same_answer, crate::proofs::Filled::same_table), unfolding(crate::specs::Terminals::filled_answer, crate::specs::Terminals::filled_cells))]
 fn filled_cells(
     trace: &[u64],
     op_stack: &[u64],
@@ -52,23 +49,20 @@ fn filled_cells(
     table: &mut [u64],
     height: usize,
     cells: &mut [u64; AUX_WORDS],
-) -> Answer
+) -> Result<(), Refusal>
     requires table_value { whole_rows table.old ≡ true }
     requires kept { Kept (rows trace.now) (rows table.old) height }
     ensures answer { result ≡ filled_answer trace.now op_stack.now ram.now jump_stack.now challenges.now (longer height table.old) }
     ensures cells { cells.new ≡ on_done result (filled_cells trace.now op_stack.now ram.now jump_stack.now challenges.now (longer height table.old)) cells.old }
 {
-    let answer = table_fill::fill(trace, op_stack, ram, jump_stack, table);
-    match answer {
-        Answer::Refused(refusal) => Answer::Refused(refusal),
-        Answer::Done => padded_cells(
-            table,
-            trace.len() / MainIndex::COUNT,
-            height,
-            challenges,
-            cells,
-        ),
-    }
+    table_fill::fill(trace, op_stack, ram, jump_stack, table)?;
+    padded_cells(
+        table,
+        trace.len() / MainIndex::COUNT,
+        height,
+        challenges,
+        cells,
+    )
 }
 
 // The trace's rows and one window of padding, unless the table has no more.
@@ -76,7 +70,7 @@ fn kept_rows(rows: usize, height: usize) -> usize
     requires { (rows ≤ MAX-ROWS) × (2 ≤ height) × (height ≤ MAX-LEN) }
     ensures { Kept rows result height }
 {
-    if rows + 2 < height { rows + 2 } else { height }
+    height.min(rows + 2)
 }
 
 fn table_cells(
@@ -87,7 +81,7 @@ fn table_cells(
     jump_stack: &[u64],
     challenges: &[u64],
     cells: &mut [u64; AUX_WORDS],
-) -> Answer
+) -> Result<(), Refusal>
     requires { (log2_height ≤ MAX-LOG-2-HEIGHT) × (rows trace.now ≤ MAX-ROWS) }
     ensures answer { result ≡ table_answer log2_height trace.now op_stack.now ram.now jump_stack.now challenges.now }
     ensures cells { cells.new ≡ on_done result (table_cells log2_height trace.now op_stack.now ram.now jump_stack.now challenges.now) cells.old }
@@ -108,6 +102,7 @@ fn table_cells(
     )
 }
 
+#[tactic(auto, unfolding(crate::specs::Terminals::opened_answer, crate::specs::Terminals::opened_cells, batch::specs::Lent::zeros))]
 pub fn opened_cells(
     counts: Counts,
     trace: &[u64],
@@ -119,7 +114,7 @@ pub fn opened_cells(
     input: &[u64],
     output: &[u64],
     cells: &mut [u64; AUX_WORDS],
-) -> Answer
+) -> Result<(), Refusal>
     requires within { Within counts (length trace.now) (length op_stack.now) (length ram.now) (length jump_stack.now) (length input.now) (length output.now) }
     requires trace_len_bound { length trace.now ≤ TRACE-WORDS }
     ensures answer { result ≡ opened_answer counts trace.now op_stack.now ram.now jump_stack.now sampled.now digest.now input.now output.now }
@@ -128,29 +123,24 @@ pub fn opened_cells(
     let input_end = counts.input;
     let output_end = counts.output;
     let mut lent = [0u64; RECORD_WORDS];
-    let answer = Challenges::new(
+    Challenges::new(
         sampled,
         digest,
         &input[..input_end],
         &output[..output_end],
         &mut lent,
-    );
-    match answer {
-        Answer::Refused(refusal) => Answer::Refused(refusal),
-        Answer::Done => {
-            let trace_end = counts.rows * MainIndex::COUNT;
-            let op_stack_end = counts.op_stack;
-            let ram_end = counts.ram;
-            let jump_stack_end = counts.jump_stack;
-            table_cells(
-                counts.log2_height,
-                &trace[..trace_end],
-                &op_stack[..op_stack_end],
-                &ram[..ram_end],
-                &jump_stack[..jump_stack_end],
-                &lent,
-                cells,
-            )
-        }
-    }
+    )?;
+    let trace_end = counts.rows * MainIndex::COUNT;
+    let op_stack_end = counts.op_stack;
+    let ram_end = counts.ram;
+    let jump_stack_end = counts.jump_stack;
+    table_cells(
+        counts.log2_height,
+        &trace[..trace_end],
+        &op_stack[..op_stack_end],
+        &ram[..ram_end],
+        &jump_stack[..jump_stack_end],
+        &lent,
+        cells,
+    )
 }

@@ -1,6 +1,6 @@
 -- Extend, with chunk length 4, and the last row.
-use Rattle.std.specs.Prelude.{List, ℕ, ◌-◌, ◌*◌, length, drop}
-use Rattle.refusal.specs.declared.Answer.{Answer}
+use Rattle.std.specs.Prelude.{List, ℕ, ◌-◌, ◌*◌, length, drop, Result}
+use Rattle.refusal.specs.declared.Refusal.{Refusal}
 use Rattle.air.specs.AuxColumn.{AUX-WORDS}
 use Rattle.table_rows.specs.Rows.{rows, started_chunks}
 use Rattle.extend_answer.specs.Answer.{extend_answer, WORK-WORDS}
@@ -19,7 +19,7 @@ module _ (main challenges : List ℕ) where
   abbrev work : List ℕ
   work = zeros (started_chunks (rows main) 4 * WORK-WORDS)
 
-  unfoldable pub extended_answer : Answer
+  unfoldable pub extended_answer : Result (Unit {0}) Refusal
   extended_answer = extend_answer main challenges 4 aux work
 
   unfoldable pub extended_cells : List ℕ

@@ -11,7 +11,7 @@ ghost use Rattle.terminals_extended.specs.Extended.{last_row, extended_answer, e
 use air::{AUX_WORDS, MainIndex};
 use batch_commands::MAX_ROWS;
 use extend_answer::WORK_WORDS;
-use refusal::Answer;
+use refusal::Refusal;
 use table_rows::unchecked::started_chunks;
 
 // The longest trace, and a window of padding.
@@ -19,41 +19,28 @@ pub const MAX_KEPT: usize = MAX_ROWS + 2;
 
 const CHUNK: usize = 4;
 
-// A row of cells.
-pub fn copy_row(from: &[u64], cells: &mut [u64])
-    requires { (length from.now ≡ AUX-WORDS) × (length cells.old ≡ AUX-WORDS) }
-    ensures { cells.new ≡ from.now }
-{
-    let mut i: usize = 0;
-    while i < AUX_WORDS {
-        cells[i] = from[i];
-        i += 1;
-    }
-}
-
 fn extended_into(
     main: &[u64],
     challenges: &[u64],
     aux: &mut [u64],
     work: &mut [u64],
     cells: &mut [u64; AUX_WORDS],
-) -> Answer
+) -> Result<(), Refusal>
     requires { AUX-WORDS ≤ length aux.old }
     ensures answer { result ≡ extend_answer main.now challenges.now 4 aux.old work.old }
     ensures cells { cells.new ≡ on_done result (last_row (extend_aux main.now challenges.now 4 aux.old work.old)) cells.old }
 {
-    let answer = extend::extend(main, challenges, CHUNK, aux, work);
-    match answer {
-        Answer::Refused(refusal) => Answer::Refused(refusal),
-        Answer::Done => {
-            let last = aux.len() - AUX_WORDS;
-            copy_row(&aux[last..], cells);
-            Answer::Done
-        }
-    }
+    extend::extend(main, challenges, CHUNK, aux, work)?;
+    let last = aux.len() - AUX_WORDS;
+    cells.copy_from_slice(&aux[last..]);
+    Ok(())
 }
 
-pub fn extended_cells(main: &[u64], challenges: &[u64], cells: &mut [u64; AUX_WORDS]) -> Answer
+pub fn extended_cells(
+    main: &[u64],
+    challenges: &[u64],
+    cells: &mut [u64; AUX_WORDS],
+) -> Result<(), Refusal>
     requires { (1 ≤ rows main.now) × (rows main.now ≤ MAX-ROWS + 2) }
     ensures answer { result ≡ extended_answer main.now challenges.now }
     ensures cells { cells.new ≡ on_done result (extended_cells main.now challenges.now) cells.old }

@@ -6,7 +6,6 @@ ghost use Rattle.std.proofs.lemmas.List.Edits.{sets};
 ghost use Rattle.terminals_report.specs.Text.{terminals_text};
 
 use air::AUX_WORDS;
-use refusal::Answer;
 use terminals_batch::last_cells;
 use terminals_text::unchecked::put_lines;
 use text::unchecked::put_refusal;
@@ -18,7 +17,7 @@ pub fn report(batch: &[u8], out: &mut [u8; 1024]) -> usize
 {
     let mut cells = [0u64; AUX_WORDS];
     match last_cells(batch, &mut cells) {
-        Answer::Refused(refusal) => put_refusal(refusal, out),
-        Answer::Done => put_lines(&cells, out),
+        Err(refusal) => put_refusal(refusal, out),
+        Ok(()) => put_lines(&cells, out),
     }
 }

@@ -1,9 +1,8 @@
 -- The text: a line for each column, or `refused`, a space and the number.
-use Rattle.std.specs.Prelude.{List, ◌++◌, ℕ, ◌+◌, ◌*◌, get_or}
-use Rattle.refusal.specs.declared.Answer.{Answer}
-use Rattle.refusal.specs.declared.Answer.TheVariants.{Done, Refused}
+use Rattle.std.specs.Prelude.{List, ◌++◌, ℕ, ◌+◌, ◌*◌, get_or, Result, Ok, Err}
 use Rattle.table_rows.specs.Rows.{rows_from}
 use Rattle.text.specs.Text.{SPACE, NEWLINE, word, refusal_text}
+use Rattle.refusal.specs.declared.Refusal.{Refusal}
 
 -- "column then coefficients"
 abbrev pub line : List ℕ → ℕ → List ℕ
@@ -17,6 +16,6 @@ unfoldable pub lines : List ℕ → List ℕ
 lines cells = rows_from (line cells) 0 11
 
 -- "one line instead, `refused`, a space and the number"
-abbrev pub text_of : Answer → List ℕ → List ℕ
-text_of Done cells = lines cells
-text_of (Refused refusal) cells = refusal_text refusal
+abbrev pub text_of : Result (Unit {0}) Refusal → List ℕ → List ℕ
+text_of (Ok u) cells = lines cells
+text_of (Err refusal) cells = refusal_text refusal

@@ -8,6 +8,7 @@ use air::{AUX_WORDS, AuxIndex};
 use text::unchecked::put_word;
 
 // A column and its three words.
+#[tactic(auto, using(text::proofs::Stores::stores))]
 fn put_line(column: usize, cells: &[u64; AUX_WORDS], out: &mut [u8], at: usize) -> usize
     requires { (column < AUX-WIDTH) × (at + 84 ≤ length out.old) }
     ensures end { (result ≡ at + length (line cells.now column)) × (result ≤ at + 84) }
@@ -20,16 +21,15 @@ fn put_line(column: usize, cells: &[u64; AUX_WORDS], out: &mut [u8], at: usize) 
     put_word(cells[first + 2], b'\n', out, at2)
 }
 
+#[tactic(auto, using(text::proofs::Stores::stores, table_rows::proofs::Rows::one_more_row), unfolding(crate::specs::Text::lines, table_rows::specs::Rows::rows_from))]
 pub fn put_lines(cells: &[u64; AUX_WORDS], out: &mut [u8]) -> usize
     requires { 924 ≤ length out.old }
     ensures end { (result ≡ length (lines cells.now)) × (result ≤ 924) }
     ensures text { out.new ≡ sets out.old 0 (lines cells.now) }
 {
-    let mut at: usize = 0;
-    let mut column: usize = 0;
-    while column < AuxIndex::COUNT {
+    let mut at = 0;
+    for column in 0..AuxIndex::COUNT {
         at = put_line(column, cells, out, at);
-        column += 1;
     }
     at
 }

@@ -8,10 +8,10 @@ use lib.Dec.{eqb}
 use lib.ListN.{length, length-append}
 use lib.Seq.{drop_at}
 use borrow.Author.Tests.{eq-eqb, ne_eqb, eqb-false, le-leb}
-use Rattle.refusal.specs.Number.{on_done}
-use Rattle.refusal.specs.declared.Answer.{Answer}
-use Rattle.refusal.specs.declared.Answer.TheVariants.{Done, Refused}
+use Rattle.std.specs.Prelude.{Result, Err}
 use Rattle.refusal.specs.declared.Refusal.TheVariants.{SliceLength, WordNotBelowP, ZeroDenominator}
+use Rattle.refusal.specs.Number.{Done, on_done}
+use Rattle.refusal.specs.declared.Refusal.{Refusal}
 use Rattle.field_base.specs.Words.{all_below}
 use Rattle.air.specs.ChallengeId.{RECORD-WORDS}
 use Rattle.table_rows.specs.Rows.{whole_rows, rows, rows_from, started_chunks}
@@ -34,9 +34,9 @@ pub record Table (main : List ℕ) : Type 0 where
   pub some : 1 ≤ rows main
 
 -- past 3 and 5, which it does not answer
-abbrev pub by_tests : Bool → Bool → Bool → Answer
+abbrev pub by_tests : Bool → Bool → Bool → Result (Unit {0}) Refusal
 by_tests record-whole below zero =
-    cond (not record-whole) (Refused SliceLength) (cond (not below) (Refused WordNotBelowP) (cond zero (Refused ZeroDenominator) Done))
+    cond (not record-whole) (Err SliceLength) (cond (not below) (Err WordNotBelowP) (cond zero (Err ZeroDenominator) Done))
 
 module _ (main challenges : List ℕ) (table : Table main) where
   pub answer : rows main ≤ 4194304 → extended_answer main challenges ≡ by_tests (eqb (length challenges) RECORD-WORDS) (all_below main && all_below challenges) (zero_denominator main challenges)

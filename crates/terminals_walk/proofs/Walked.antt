@@ -7,7 +7,7 @@ use native.Mathlib.Omega.{arith}
 use lib.Dec.{eqb, ltb}
 use lib.ListN.{length, drop}
 use borrow.Author.Tests.{ltb-true, ltb-false}
-use Rattle.refusal.specs.declared.Answer.TheVariants.{Done}
+use Rattle.refusal.specs.Number.{Done}
 use Rattle.field_base.specs.Words.{all_below}
 use Rattle.field_base.proofs.Below.{below_take, below_drop}
 use Rattle.field.specs.Element.{Canonical, element_at}

@@ -1,5 +1,5 @@
 // The caller knows what the first rows of the table are.
-ghost use Rattle.std.specs.Prelude.{◌≡◌, ◌+◌, ◌-◌, ◌≤◌};
+ghost use Rattle.std.specs.Prelude.{◌≡◌, ◌+◌, ◌≤◌};
 ghost use Rattle.refusal.specs.Number.{on_done};
 ghost use Rattle.table_rows.specs.Rows.{rows};
 ghost use Rattle.batch_commands.specs.Format.{MAX-ROWS};
@@ -8,42 +8,30 @@ ghost use Rattle.terminals_walk.specs.Grown.{grown, Growing};
 
 use air::{AUX_WORDS, MainIndex};
 use extend_padding::unchecked::walk_padding;
-use refusal::Answer;
+use refusal::Refusal;
 use table_rows::unchecked::row;
 use terminals_extended::unchecked::extended_cells;
 
-// The rows of a table of `height` rows below those at hand.
-pub fn rows_below(rows: usize, height: usize) -> usize
-    requires { rows ≤ height }
-    ensures { result ≡ height - rows }
-{
-    height - rows
-}
-
 // The last row of a table of `height` rows that begins with `main` and goes on with padding rows like its last: the first rows are
 // extended, and the others walked.
+#[tactic(auto, using(crate::proofs::Walked::answer_kept, crate::proofs::Walked::at_rest))]
 pub fn walked_cells(
     main: &[u64],
     height: usize,
     challenges: &[u64],
     cells: &mut [u64; AUX_WORDS],
-) -> Answer
+) -> Result<(), Refusal>
     requires growing { Growing main.now height }
     requires main_bound { rows main.now ≤ MAX-ROWS + 2 }
     ensures answer { result ≡ extended_answer (grown height main.now) challenges.now }
     ensures cells { cells.new ≡ on_done result (extended_cells (grown height main.now) challenges.now) cells.old }
 {
     let rows = main.len() / MainIndex::COUNT;
-    let answer = extended_cells(main, challenges, cells);
-    match answer {
-        Answer::Refused(refusal) => Answer::Refused(refusal),
-        Answer::Done => {
-            if rows < height {
-                let last = row(main, rows - 1);
-                let left = rows_below(rows, height);
-                walk_padding(cells, last, challenges, rows, left);
-            }
-            Answer::Done
-        }
+    extended_cells(main, challenges, cells)?;
+    if rows < height {
+        let last = row(main, rows - 1);
+        let left = height - rows;
+        walk_padding(cells, last, challenges, rows, left);
     }
+    Ok(())
 }

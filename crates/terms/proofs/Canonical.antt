@@ -5,6 +5,7 @@ use mathlib.Core.List.{List, [], ◌∷◌, map, reverse}
 use Prim.Native.Nat.{ℕ, zero, suc, ◌*◌, ◌<◌}
 use lib.Dec.{eqb, lit<}
 use lib.ListN.{get_or, drop}
+use Rattle.std.specs.Prelude.{Result, Ok, Err}
 use Rattle.algebra.specs.Modulus.{p}
 use Rattle.algebra.specs.Polynomial.{All}
 use Rattle.field_base.specs.Words.{all_below}
@@ -16,8 +17,7 @@ use Rattle.air.specs.Count.{up_to}
 use Rattle.air.specs.MainColumn.{CLK, CI, ST0, CLOCK-JUMP-DIFFERENCE-LOOKUP-MULTIPLICITY}
 use Rattle.isa.specs.Instruction.{opcode_of, argument_of, influence_of}
 use Rattle.isa.specs.declared.Instruction.{Instruction}
-use Rattle.isa_decoding.specs.declared.Decoded.{Decoded}
-use Rattle.isa_decoding.specs.declared.Decoded.TheVariants.{Read, Unknown, Outside}
+use Rattle.isa_decoding.specs.declared.Undecodable.{Undecodable}
 use Rattle.table_rows.specs.Rows.{row_at}
 use Rattle.column_entries.proofs.Weigh.{weigh_canonical}
 use Rattle.column_entries.specs.Row.{word_at, words_from, is_padding, instruction_of, weigh}
@@ -51,10 +51,9 @@ row_below : (table : List ℕ) → Words table → (r : ℕ) → Words (row_at t
 row_below table h r = All-take (λ w. w < p) 39 (drop (r * 39) table) (All-drop (λ w. w < p) (r * 39) table h)
 
 module _ {A : Type 0} (Q : A → Type 0) where
-  if_read_lem : (d : Decoded) (brings : Instruction → List A) → ((i : Instruction) → All Q (brings i)) → All Q (if_read d brings)
-  if_read_lem Unknown brings h = tt
-  if_read_lem (Outside c i) brings h = tt
-  if_read_lem (Read i) brings h = h i
+  if_read_lem : (d : Result Instruction Undecodable) (brings : Instruction → List A) → ((i : Instruction) → All Q (brings i)) → All Q (if_read d brings)
+  if_read_lem (Err e) brings h = tt
+  if_read_lem (Ok i) brings h = h i
 
   if_opcode_lem : (opcode : ℕ) (i : Instruction) (brings : ℕ → List A) → ((n : ℕ) → All Q (brings n)) → All Q (if_opcode opcode i brings)
   if_opcode_lem opcode i brings h = All-cond Q (eqb (opcode_of i) opcode) (brings (argument_of i)) [] (h (argument_of i)) tt

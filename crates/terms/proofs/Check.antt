@@ -9,12 +9,11 @@ use lib.Dec.{eqb}
 use lib.ListN.{length, get_or}
 use lib.Seq.{ext_get_or}
 use borrow.Author.Tests.{eq-eqb, ne_eqb}
-use Rattle.refusal.specs.Tests.{◌unless◌}
+use Rattle.std.specs.Prelude.{Result, Ok, Err, Option, None}
 use Rattle.refusal.specs.declared.Refusal.{Refusal}
 use Rattle.refusal.specs.declared.Refusal.TheVariants.{SliceLength}
-use Rattle.refusal.specs.declared.Answer.{Answer}
-use Rattle.refusal.specs.declared.Answer.TheVariants as answer
 use Rattle.refusal.proofs.First.{seen_through}
+use Rattle.refusal.specs.Tests.{Done, ◌unless◌}
 use Rattle.field_base.specs.Words.{all_below}
 use Rattle.field_base.proofs.Below.{below_append}
 use Rattle.field.specs.Element.{Canonical, element_at, words_of}
@@ -33,14 +32,11 @@ use Rattle.extend_answer.proofs.Accepted as extension
 use Rattle.extend.specs.Extend.{extend_aux}
 use Rattle.extend.proofs.Written.{written}
 use Rattle.check_relations.specs.Offered.{cell_before}
-use Rattle.check_relations.specs.First.{verdict}
-use Rattle.check_relations.specs.declared.Verdict.{Verdict}
-use Rattle.check_relations.specs.declared.Verdict.TheVariants.{Yes}
 use Rattle.check_relations.proofs.Cells.{start_running, holds_exactly, all_cells}
-use Rattle.check_relations.proofs.Place.{column_at, all_hold, first_place}
+use Rattle.check_relations.specs.First.{verdict, place}
+use Rattle.check_relations.proofs.FirstPlace.{column_at, all_hold, first_place}
+use Rattle.check_relations.specs.declared.Place.{Place}
 use Rattle.check_columns.specs.Check.{check_answer}
-use Rattle.check_columns.specs.declared.CheckAnswer.{CheckAnswer}
-use Rattle.check_columns.specs.declared.CheckAnswer.TheVariants.{Checked, Refused}
 use Rattle.check_columns.proofs.Stages.{passed, verdict_is}
 use Rattle.terms.specs.Check.{Lent, Check}
 use Rattle.terms.proofs.Cells.{cell_at_lem}
@@ -89,17 +85,17 @@ module _ (main challenges : List ℕ) where
         rw e (at (i / 33) (i % 33 / 3) (i % 33 % 3) (omega (arith, long, l)) (omega arith) (omega arith)))
 
 -- Extension's answer, with the verdict in the place of Done.
-abbrev as_checked : Answer → Verdict → CheckAnswer
-as_checked answer.Done v = Checked v
-as_checked (answer.Refused r) v = Refused r
+abbrev as_checked : Result (Unit {0}) Refusal → Option Place → Result (Option Place) Refusal
+as_checked (Ok u) v = Ok v
+as_checked (Err r) v = Err r
 
-refused_both : (a : Answer) (v : Verdict) (r : Refusal) → as_checked a v ≡ Refused r → a ≡ answer.Refused r
-refused_both answer.Done v r e = let z : ◌≡◌ {A = ℕ} 0 1 = cc in absurd (omega arith)
-refused_both (answer.Refused s) v r e = cc
+refused_both : (a : Result (Unit {0}) Refusal) (v : Option Place) (r : Refusal) → as_checked a v ≡ Err r → a ≡ Err r
+refused_both (Ok u) v r e = cc
+refused_both (Err s) v r e = cc
 
-done_both : (a : Answer) (v w : Verdict) → as_checked a v ≡ Checked w → a ≡ answer.Done
-done_both answer.Done v w e = refl
-done_both (answer.Refused s) v w e = let z : ◌≡◌ {A = ℕ} 0 1 = cc in absurd (omega arith)
+done_both : (a : Result (Unit {0}) Refusal) (v w : Option Place) → as_checked a v ≡ Ok w → a ≡ Done
+done_both (Ok u) v w e = refl
+done_both (Err s) v w e = cc
 
 module _ (main challenges offered : List ℕ) (chunk : ℕ) (aux work : List ℕ) (lent : Lent main chunk aux work) where
   same_answer : length offered ≡ rows main * 33 → all_below offered ≡ true
@@ -116,19 +112,19 @@ module _ (main challenges offered : List ℕ) (chunk : ℕ) (aux work : List ℕ
         eq-eqb (length work) _ lent.work_length,
       )
       (sym
-      (seen_through (λ a. as_checked a (verdict challenges main offered)) answer.Refused
+      (seen_through (λ a. as_checked a (verdict challenges main offered)) Err
       ((SliceLength unless whole_rows main && eqb (length challenges) RECORD-WORDS) ∷ rows_test main ∷ words_test (main ∷ challenges ∷ []) ∷ denominator_test main challenges ∷ [])
-      answer.Done))
+      Done))
 
   -- yes is just extension's columns
-  says_yes : check_answer main challenges offered ≡ Checked Yes → (extend_answer main challenges chunk aux work ≡ answer.Done) × (extend_aux main challenges chunk aux work ≡ offered)
+  says_yes : check_answer main challenges offered ≡ Ok None → (extend_answer main challenges chunk aux work ≡ Done) × (extend_aux main challenges chunk aux work ≡ offered)
   says_yes h =
       let p = passed main challenges offered h in
-      let done = done_both (extend_answer main challenges chunk aux work) (verdict challenges main offered) Yes (sym (same_answer p.offered_length p.offered_below) ∙ h) in
+      let done = done_both (extend_answer main challenges chunk aux work) (verdict challenges main offered) None (sym (same_answer p.offered_length p.offered_below) ∙ h) in
       let held = (all_hold challenges main offered).0 (verdict_is main challenges offered h) in
       (done, written main challenges chunk aux work done ∙ sym (all_words main challenges offered p.offered_length (all_cells challenges main offered p.no_zero p.offered_below held)))
 
-  yes_to : (extend_answer main challenges chunk aux work ≡ answer.Done) × (extend_aux main challenges chunk aux work ≡ offered) → check_answer main challenges offered ≡ Checked Yes
+  yes_to : (extend_answer main challenges chunk aux work ≡ Done) × (extend_aux main challenges chunk aux work ≡ offered) → check_answer main challenges offered ≡ Ok None
   yes_to h =
       let e = sym h.1 ∙ written main challenges chunk aux work h.0 in
       let below = ap all_below e ∙ extended_below main challenges in
@@ -136,7 +132,7 @@ module _ (main challenges offered : List ℕ) (chunk : ℕ) (aux work : List ℕ
       let own : (r : ℕ) (c : Column) → r < rows main → cell_at c offered r ≡ cell c challenges main r = λ r c l. ap (λ t. cell_at c t r) e ∙ cell_at_lem main challenges c r l in
       same_answer (ap length e ∙ extended_long main challenges) below
       ∙ ap (λ a. as_checked a (verdict challenges main offered)) h.0
-      ∙ ap Checked ((all_hold challenges main offered).1 (λ r c l. (holds_exactly challenges main offered no_zero r l below c (before own c r l)).1 (own r c l)))
+      ∙ ap Ok ((all_hold challenges main offered).1 (λ r c l. (holds_exactly challenges main offered no_zero r l below c (before own c r l)).1 (own r c l)))
     where
       before : ((r : ℕ) (c : Column) → r < rows main → cell_at c offered r ≡ cell c challenges main r) → (c : Column) (r : ℕ) → r < rows main → cell_before c offered r ≡ running c challenges main r
       before own c zero l = start_running challenges main offered c

@@ -1,15 +1,15 @@
 -- Where extension finds no zero denominator, every fraction of the three lookup columns is defined.
-use mathlib.Core.Path.{◌≡◌, refl}
-use mathlib.Core.Bool.{Bool, true, false, true≢false, ◌||◌}
+use mathlib.Core.Path.{◌≡◌}
+use mathlib.Core.Bool.{Bool, false, ◌||◌}
 use mathlib.Core.List.{List, [], ◌∷◌}
 use Prim.Native.Nat.{ℕ}
+use Rattle.std.proofs.lemmas.Bool.{or_parts}
 use Rattle.field.specs.Element.{difference, is_zero}
 use Rattle.field.specs.declared.XFieldElement.{XFieldElement}
 use Rattle.field.proofs.Division.{not_zero}
 use Rattle.cross_table_argument.specs.CrossTable.{Fraction}
 use Rattle.challenges.specs.Derived.{challenge_at}
 use Rattle.table_rows.specs.Rows.{rows}
-use Rattle.refusal.proofs.Answers.{or-false}
 use Rattle.column_entries.specs.Columns.{Column, input, output, instruction, op_stack, ram, jump_stack, hash_input, hash_digest, sponge, u32, clock, Kind, evaluation, product, lookup, kind_of, Entry, indeterminate_of, weights, entries}
 use Rattle.column_entries.specs.Denominators.{has_zero, zero_up_to, zero_denominator}
 use Rattle.terms.specs.Counting.{Defined}
@@ -18,13 +18,14 @@ defined : (x : XFieldElement) (fs : List Fraction) → has_zero x fs ≡ false �
 unfolding has_zero
 defined x [] h = tt
 defined x (f ∷ fs) h =
-    let parts = or-false (is_zero (difference x f.symbol)) (has_zero x fs) h in
+    let parts = or_parts (is_zero (difference x f.symbol)) (has_zero x fs) h in
     (not_zero (difference x f.symbol) parts.0, defined x fs parts.1)
 
 none_of : (a b c : Bool) → (a || b || c) ≡ false → (a ≡ false) × (b ≡ false) × (c ≡ false)
-none_of false false c h = (refl, refl, h)
-none_of false true c h = absurd (true≢false h)
-none_of true b c h = absurd (true≢false h)
+none_of a b c h =
+    let parts = or_parts (a || b) c h in
+    let first = or_parts a b parts.0 in
+    (first.0, first.1, parts.1)
 
 -- only fractions can be undefined
 abbrev pub DefinedAt : (k : Kind) → XFieldElement → List (Entry k) → Type 0

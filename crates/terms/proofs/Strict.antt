@@ -8,13 +8,13 @@ use native.Mathlib.Omega.{arith}
 use lib.Dec.{eqb}
 use lib.ListN.{length, replicate}
 use borrow.Author.Tests.{eqb-true, eqb-false}
+use Rattle.std.specs.Prelude.{Result, Ok, Err}
 use Rattle.refusal.specs.Number.{on_done}
 use Rattle.refusal.specs.Tests.{Tests}
 use Rattle.refusal.specs.declared.Refusal.TheVariants.{UndecodableRow}
 use Rattle.refusal.proofs.First.{inserted_exactly, inserted_elsewhere}
 use Rattle.isa.specs.declared.Instruction.{Instruction}
-use Rattle.isa_decoding.specs.declared.Decoded.{Decoded}
-use Rattle.isa_decoding.specs.declared.Decoded.TheVariants.{Read, Unknown, Outside}
+use Rattle.isa_decoding.specs.declared.Undecodable as reason
 use Rattle.table_rows.specs.Rows.{rows, row_at}
 use Rattle.column_entries.specs.Row.{instruction_of}
 use Rattle.extend_answer.specs.Answer.{tests_through_two, denominator_test, extend_answer}
@@ -24,13 +24,12 @@ use Rattle.extend.specs.Extend.{extend_aux, extend_work, strict_aux, strict_work
 use Rattle.terms.specs.Strict.{Undecodable, Eleven, Elsewhere, Strict}
 
 -- rows that do not decode
-unread_row : (d : Decoded) → is_read d ≡ false → (i : Instruction) → d ≢ Read i
+unread_row : (d : Result Instruction reason.Undecodable) → is_read d ≡ false → (i : Instruction) → d ≢ Ok i
 unread_row d e i f = false≢true (sym e ∙ ap is_read f)
 
-not_read : (d : Decoded) → ((i : Instruction) → d ≢ Read i) → is_read d ≡ false
-not_read (Read i) h = absurd (h i refl)
-not_read Unknown h = refl
-not_read (Outside c i) h = refl
+not_read : (d : Result Instruction reason.Undecodable) → ((i : Instruction) → d ≢ Ok i) → is_read d ≡ false
+not_read (Ok i) h = absurd (h i refl)
+not_read (Err why) h = refl
 
 module _ (main : List ℕ) where
   here_or_later : (c n : ℕ) (read : Bool) → is_read (instruction_of (row_at main c)) ≡ read → (not read || undecodable_from main (suc c) n) ≡ true

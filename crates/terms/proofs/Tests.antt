@@ -3,11 +3,8 @@ use mathlib.Core.Path.{◌≡◌, refl}
 use mathlib.Core.Bool.{Bool, true, false, cond, ◌&&◌, false≢true}
 use mathlib.Core.List.{List, [], ◌∷◌}
 use lib.Dec.{T}
+use mir.Facts.{and_yes}
 use Rattle.algebra.specs.Polynomial.{All}
-
-pub and_both : (s t : Bool) → T (s && t) → T s × T t
-and_both true t h = (tt, h)
-and_both false t h = absurd h
 
 abbrev pub every : {A : Type 0} → (A → Bool) → List A → Bool
 every test [] = true
@@ -15,7 +12,7 @@ every test (a ∷ l) = test a && every test l
 
 pub every_all : {A : Type 0} (test : A → Bool) (Q : A → Type 0) → ((a : A) → T (test a) → Q a) → (l : List A) → T (every test l) → All Q l
 every_all test Q h [] t = tt
-every_all test Q h (a ∷ l) t = let u = and_both (test a) (every test l) t in (h a u.0, every_all test Q h l u.1)
+every_all test Q h (a ∷ l) t = let u = and_yes (test a) (every test l) t in (h a u.0, every_all test Q h l u.1)
 
 abbrev pub choose : {Q A : Type 0} → Dec Q → A → A → A
 choose (yes q) a b = a

@@ -4,9 +4,9 @@ use contract.Lifetimes.{Lfts}
 use borrow.Fn.World.{ArgsD, ResD}
 use borrow.Fn.Kinds.{ended_of}
 use denote.Triple.Clauses.{AtExit}
+use Rattle.refusal.specs.Number.{Done}
 use Rattle.algebra.specs.Polynomial.{All, Distinct}
 use Rattle.field.specs.declared.XFieldElement.{XFieldElement}
-use Rattle.refusal.specs.declared.Answer.TheVariants.{Done}
 use Rattle.air.specs.ChallengeId.{SAMPLE-COUNT}
 use Rattle.challenges.specs.Derived.{challenge_at}
 use Rattle.table_rows.specs.Rows.{rows}

@@ -1,15 +1,14 @@
 -- Term 1: every call of a public operation ends with 0 or a number of the operation's line in documents 01 and 02; after a refusal no lent slice has changed.
 -- The operations are those of `tealbobbin`, which `tealbobbin_c` exports. That a call ends is part of each contract, and none has a `requires`; number and slices are the
 -- terms that the contracts give: any words, slices of any length.
-use Rattle.std.specs.Prelude.{◌≡◌, ◌≢◌, ℕ, length}
+use Rattle.std.specs.Prelude.{◌≡◌, ◌≢◌, ℕ, length, Result}
 use mathlib.Core.List.{List, [], ◌∷◌, Memᴰ}
 use Rattle.refusal.specs.Number.{answer_number_of}
+use Rattle.refusal.specs.declared.Refusal.{Refusal}
 use Rattle.field_base.specs.Answers.{base_add, base_sub, base_mul, base_inverse}
-use Rattle.field_base.specs.declared.BaseAnswer.{BaseAnswer}
 use Rattle.field_montgomery.specs.Answers.{to_answer, from_answer, montgomery_add, montgomery_mul, montgomery_inverted}
 use Rattle.field.specs.Answers.{element_add, element_sub, element_mul, element_scale, element_inverse}
 use Rattle.field.specs.declared.XFieldElement.{XFieldElement}
-use Rattle.field.specs.declared.ElementAnswer.{ElementAnswer}
 use Rattle.isa_decoding.specs.Answer.{decode_answer}
 use Rattle.challenges.specs.Derived.{challenges_answer, challenges_record}
 use Rattle.scan_steps.specs.Scan.{scanned_maps, scanned_products, scanned_sums}
@@ -20,7 +19,6 @@ use Rattle.extend_answer.specs.Answer.{extend_answer}
 use Rattle.extend_answer.specs.Strict.{strict_answer}
 use Rattle.extend.specs.Extend.{extend_aux, extend_work, strict_aux, strict_work}
 use Rattle.check_columns.specs.Check.{check_answer}
-use Rattle.batch.specs.Open.{open_number}
 use Rattle.batch_writer.specs.Contents.{Contents}
 use Rattle.batch_writer.specs.Write.{write_answer, write_batch}
 use Rattle.tealbobbin_answers.specs.Field.{base_number_into, base_into, unary_number, unary_out, binary_number, binary_out}
@@ -41,13 +39,13 @@ pub record Answers (line : List ℕ) (number : ℕ) (unchanged : Type 0) : Type 
   pub kept : number ≢ 0 → unchanged
 
 -- an operation on words, on an element and on two, whose result goes into `out`
-abbrev pub OnWords : List ℕ → BaseAnswer → Type 0
+abbrev pub OnWords : List ℕ → Result ℕ Refusal → Type 0
 OnWords line answer = (out : List ℕ) → Answers line (base_number_into out answer) (base_into out answer ≡ out)
 
-abbrev pub OnElement : List ℕ → (XFieldElement → ElementAnswer) → Type 0
+abbrev pub OnElement : List ℕ → (XFieldElement → Result XFieldElement Refusal) → Type 0
 OnElement line f = (a out : List ℕ) → Answers line (unary_number f a out) (unary_out f a out ≡ out)
 
-abbrev pub OnElements : List ℕ → (XFieldElement → XFieldElement → ElementAnswer) → Type 0
+abbrev pub OnElements : List ℕ → (XFieldElement → XFieldElement → Result XFieldElement Refusal) → Type 0
 OnElements line f = (a b out : List ℕ) → Answers line (binary_number f a b out) (binary_out f a b out ≡ out)
 
 -- a scan of items of `width` words, in place
@@ -97,7 +95,7 @@ pub record Term1 : Type 0 where
   pub check : Checks (1 ∷ 3 ∷ 2 ∷ 6 ∷ []) 1
   pub check_at : Checks (1 ∷ 3 ∷ 2 ∷ 6 ∷ []) 3
   pub open_batch : (batch : List ℕ) (lent : Slices)
-      → Answers (1 ∷ 7 ∷ 8 ∷ 9 ∷ 10 ∷ 3 ∷ 12 ∷ 2 ∷ []) (open_number (open_into batch lent)) (slices_after batch lent ≡ lent)
+      → Answers (1 ∷ 7 ∷ 8 ∷ 9 ∷ 10 ∷ 3 ∷ 12 ∷ 2 ∷ []) (answer_number_of (open_into batch lent)) (slices_after batch lent ≡ lent)
   pub write_batch : (contents : Contents) (form : ℕ) (batch : List ℕ)
       → Answers (1 ∷ 3 ∷ 12 ∷ 2 ∷ []) (answer_number_of (write_answer (told_form form) contents (length batch))) (write_batch (told_form form) contents batch ≡ batch)
   pub terminals : (batch cells : List ℕ)

@@ -1,6 +1,6 @@
 -- Term 2: each cell that extension writes is the cross-table argument over the entries up to and with its row, at every positive chunk length.
 use Rattle.std.specs.Prelude.{◌≡◌, List, ℕ, suc, ◌*◌, ◌<◌, length}
-use Rattle.refusal.specs.declared.Answer.TheVariants.{Done}
+use Rattle.refusal.specs.Number.{Done}
 use Rattle.challenges.specs.Derived.{challenge_at}
 use Rattle.table_rows.specs.Rows.{rows, started_chunks}
 use Rattle.column_entries.specs.Columns.{Column, kind_of, indeterminate_of, weights, entries, argument}

@@ -1,8 +1,8 @@
 -- Term 3: two tables with different entries in a column end on the same cell for few indeterminates.
 use Rattle.std.specs.Prelude.{◌≡◌, ◌≢◌, cond, List, map, ℕ, ◌+◌, ◌-◌, ◌≤◌, ◌<◌, max, eqb, length}
+use Rattle.refusal.specs.Number.{Done}
 use Rattle.algebra.specs.Polynomial.{All, Distinct}
 use Rattle.field.specs.declared.XFieldElement.{XFieldElement}
-use Rattle.refusal.specs.declared.Answer.TheVariants.{Done}
 use Rattle.air.specs.ChallengeId.{SAMPLE-COUNT}
 use Rattle.challenges.specs.Derived.{challenge_at}
 use Rattle.table_rows.specs.Rows.{rows}

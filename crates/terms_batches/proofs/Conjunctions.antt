@@ -2,7 +2,7 @@
 use mathlib.Core.Path.{◌≡◌}
 use mathlib.Core.Bool.{Bool, true, ◌&&◌}
 use mathlib.Core.List.{List, [], ◌∷◌}
-use Rattle.field_base.proofs.Below.{and-true}
+use Rattle.std.proofs.lemmas.Bool.{and_parts}
 use Rattle.batch_reader.proofs.Ordered.{Every}
 
 abbrev pub and_all : Bool → List Bool → Bool
@@ -13,7 +13,7 @@ pub all_true : (b : Bool) (cs : List Bool) → and_all b cs ≡ true → (b ≡ 
 all_true b [] e = (e, tt)
 all_true b (c ∷ cs) e =
     let rest = all_true (b && c) cs e in
-    let two = and-true b c rest.0 in
+    let two = and_parts b c rest.0 in
     (two.0, (two.1, rest.1))
 
 pub true_all : (b : Bool) (cs : List Bool) → b ≡ true → Every (λ c. c ≡ true) cs → and_all b cs ≡ true

@@ -1,6 +1,6 @@
 -- 0B, or nothing for k 0: in a batch that is read, and as the writer lays it out.
 use mathlib.Core.Path.{◌≡◌, refl, sym, ap, ◌∙◌}
-use mathlib.Core.Bool.{Bool, true, false, cond, not, ◌&&◌}
+use mathlib.Core.Bool.{Bool, true, false, cond, not, ◌&&◌, and-false}
 use mathlib.Core.Logic.{inl, inr}
 use mathlib.Core.List.{List, [], ◌∷◌, ◌++◌}
 use Prim.Native.Nat.{ℕ, ◌+◌, ◌<◌}
@@ -21,10 +21,6 @@ use Rattle.batch_writer.specs.Write.{refused_height}
 use Rattle.terms_batches.proofs.ByKind.{only}
 use Rattle.terms_batches.proofs.OneKind.{Sized, none_of}
 use Rattle.terms_batches.proofs.Sound.{Proper}
-
-and-false : (b : Bool) → (b && false) ≡ false
-and-false true = refl
-and-false false = refl
 
 -- what is read, the writer takes
 pub not_refused : (ks : List Command) → HeightSet ks → refused_height (announced ks) (height_of ks) ≡ false
@@ -53,7 +49,7 @@ only_height ks (inl s) h = rw s.1 (none_of HEIGHT ks s.0)
 only_height ks (inr s) h = rw (ne_eqb (height_of ks) 0 (sent (height_of ks) s.1)) (only_one ks s.0 h)
   where
     sent : (k : ℕ) → wrong_height (announced ks) k ≡ false → k ≡ 0 → ⊥
-    sent k e z = let q : true ≡ false = rw z at e in let n : ◌≡◌ {A = ℕ} 0 1 = cc in omega arith
+    sent k e z = let q : true ≡ false = rw z at e in cc
 
 module _ (k : ℕ) where
   pub count-height : (code : ℕ) → eqb HEIGHT code ≡ false → count code (commands_of_height k) ≡ 0

@@ -8,14 +8,13 @@ use lib.Dec.{eqb, ltb, lit<}
 use lib.ListN.{length, take, drop, drop_of_length-le}
 use lib.Seq.{take_at}
 use borrow.Author.Tests.{ltb-false, eqb-true, not-false}
+use Rattle.std.proofs.lemmas.Bool.{or_parts}
+use Rattle.std.specs.Prelude.{Result, Ok, Err}
 use Rattle.refusal.specs.declared.Refusal.{Refusal}
-use Rattle.refusal.proofs.Answers.{or-false}
 use Rattle.air.specs.MainColumn.{MAIN-WIDTH}
 use Rattle.air.specs.ChallengeId.{SAMPLED-WORDS, DIGEST-WORDS}
 use Rattle.batch_commands.specs.Format.{MAX-DIFFERENCES, MAX-WORDS, ROW, OP-STACK, RAM, JUMP-STACK, SAMPLED, DIGEST, INPUT, OUTPUT, Command}
 use Rattle.batch_reader.specs.declared.Counts.{Counts}
-use Rattle.batch_reader.specs.declared.OpenAnswer.{OpenAnswer}
-use Rattle.batch_reader.specs.declared.OpenAnswer.TheVariants.{Opened, Refused}
 use Rattle.batch_reader.specs.Commands.{counts, height_of, slice_from}
 use Rattle.batch_reader.specs.Reading.{Reading, read, refused, reading}
 use Rattle.batch_reader.specs.Answers.{counts_in, answer_of, brought}
@@ -29,7 +28,7 @@ use Rattle.terms_batches.proofs.Conjunctions.{all_true}
 use Rattle.terms_batches.proofs.Canonical.{contents_in}
 use Rattle.terms_batches.proofs.Sound.{sound}
 
-opens : (refuse : Bool) (r : Refusal) (rest : OpenAnswer) (came : Counts) → cond refuse (Refused r) rest ≡ Opened came → (refuse ≡ false) × (rest ≡ Opened came)
+opens : (refuse : Bool) (r : Refusal) (rest : Result Counts Refusal) (came : Counts) → cond refuse (Err r) rest ≡ Ok came → (refuse ≡ false) × (rest ≡ Ok came)
 opens true r rest came e = (cc, cc)
 opens false r rest came e = (refl, e)
 
@@ -41,7 +40,7 @@ pub record Opens (batch : List ℕ) (lent : Contents) (came : Counts) : Type 0 w
   pub right : RightSlices lent
   pub short : length batch ≤ MAX-BYTES
 
-answers : (r : Reading) (came : Counts) → answer_of r ≡ Opened came → (ks : List Command) × (r ≡ read ks) × (came ≡ counts_in (counts ks) (height_of ks))
+answers : (r : Reading) (came : Counts) → answer_of r ≡ Ok came → (ks : List Command) × (r ≡ read ks) × (came ≡ counts_in (counts ks) (height_of ks))
 answers (read ks) came e = (ks, refl, cc)
 answers (refused r) came e = ([], cc, cc)
 
@@ -54,12 +53,12 @@ whole_lengths trace op_stack ram jump_stack sampled digest input output right =
     ∷ eqb (length digest) DIGEST-WORDS ∷ eqb (length input) MAX-WORDS ∷ eqb (length output) MAX-WORDS ∷ []) right in
     (eqb-true (length sampled) SAMPLED-WORDS h.1.1.1.1.0, eqb-true (length digest) DIGEST-WORDS h.1.1.1.1.1.0)
 
-module _ (batch : List ℕ) (lent : Contents) (came : Counts) (e : opened batch lent ≡ Opened came) where
+module _ (batch : List ℕ) (lent : Contents) (came : Counts) (e : opened batch lent ≡ Ok came) where
   pub opening : Opens batch lent came
   unfolding open_answer
   opening =
       let o = opens (ltb MAX-BYTES (length batch) || not (right_lengths (length lent.trace) (length lent.op_stack) (length lent.ram) (length lent.jump_stack) (length lent.sampled) (length lent.digest) (length lent.input) (length lent.output))) _ (answer_of (reading batch)) came e in
-      let t = or-false (ltb MAX-BYTES (length batch)) _ o.0 in
+      let t = or_parts (ltb MAX-BYTES (length batch)) _ o.0 in
       let a = answers (reading batch) came o.1 in
       record { ks = a.0; is_read = a.1; came_is = a.2; right = not-false _ t.1; short = ltb-false MAX-BYTES (length batch) t.0 }
 

@@ -9,9 +9,9 @@ use lib.Dec.{eqb, leb, ltb, lit<, lit≤}
 use lib.ListN.{length, take}
 use lib.Seq.{take_all}
 use borrow.Author.Tests.{ltb-false, le-ltb, leb-true, le-leb, eqb-true, eqb-false, eq-eqb, ne_eqb, not-false}
+use Rattle.std.proofs.lemmas.Bool.{and_parts, or_parts}
 use Rattle.field_base.specs.Words.{all_below}
-use Rattle.field_base.proofs.Below.{and-true, below_append}
-use Rattle.refusal.proofs.Answers.{or-false}
+use Rattle.field_base.proofs.Below.{below_append}
 use Rattle.batch_words.specs.Words.{number, words}
 use Rattle.batch_commands.specs.Format.{END, TRACE-ROWS, SAMPLED, DIGEST, HEIGHT, MAX-ROWS, COMMANDS, width, words_in, words_for, limit, rank, key, Command}
 use Rattle.field_montgomery.specs.declared.Form.{Form}
@@ -82,7 +82,7 @@ some_by [] h s = absurd s
 some_by (k ∷ ks) h s =
     let n = number (take (width k.code) k.operand) in
     let t : not (leb 1 n && leb n MAX-ROWS) ≡ false = row_count_right k.code (take (width k.code) k.operand) s h.0.passes.row_count in
-    let v = and-true (leb 1 n) (leb n MAX-ROWS) (not-false (leb 1 n && leb n MAX-ROWS) t) in
+    let v = and_parts (leb 1 n) (leb n MAX-ROWS) (not-false (leb 1 n && leb n MAX-ROWS) t) in
     rw (take_all (width k.code) k.operand (omega (arith, h.0.whole))) at (leb-true 1 n v.0)
 
 pub sound : (batch : List ℕ) (ks : List Command) → reading batch ≡ read ks → Sound (form_of ks) ks
@@ -92,9 +92,9 @@ sound batch ks e =
     let c = l.complete in
     let s = starts_by ks l.faultless c in
     let b = bounded batch ks e in
-    let none = (or-false (missing (announced ks) (counts ks)) false c.at_end).0 in
-    let f = or-false (ltb (rows_in (counts ks)) (announced ks) || eqb (count SAMPLED ks) 0) (eqb (count DIGEST ks) 0) none in
-    let g = or-false (ltb (rows_in (counts ks)) (announced ks)) (eqb (count SAMPLED ks) 0) f.0 in
+    let none = (or_parts (missing (announced ks) (counts ks)) false c.at_end).0 in
+    let f = or_parts (ltb (rows_in (counts ks)) (announced ks) || eqb (count SAMPLED ks) 0) (eqb (count DIGEST ks) 0) none in
+    let g = or_parts (ltb (rows_in (counts ks)) (announced ks)) (eqb (count SAMPLED ks) 0) f.0 in
     record {
       starts = s;
       some_rows = some_by ks l.faultless s;

@@ -5,10 +5,10 @@ use mathlib.Core.List.{List, [], ◌∷◌}
 use Prim.Native.Nat.{ℕ, ◌≤◌}
 use lib.Dec.{leb}
 use borrow.Author.Tests.{leb-true, not-false}
+use Rattle.std.proofs.lemmas.Bool.{and_parts}
 use Rattle.field_base.specs.Words.{all_below}
-use Rattle.field_base.proofs.Below.{and-true}
-use Rattle.refusal.specs.declared.Answer.TheVariants.{Done}
 use Rattle.refusal.proofs.First.{done_exactly}
+use Rattle.refusal.specs.Number.{Done}
 use Rattle.table_rows.specs.Rows.{rows}
 use Rattle.batch_commands.specs.Format.{MAX-ROWS}
 use Rattle.field_montgomery.specs.declared.Form.{Form}
@@ -49,7 +49,7 @@ module _ (form : Form) (contents : Contents) (n : ℕ) where
   writable e =
       let count = rows contents.trace in
       let none = (done_exactly (write_tests form contents n)).0 e in
-      let r = and-true (leb 1 count) (leb count MAX-ROWS) (not-false (leb 1 count && leb count MAX-ROWS) none.1.0) in
+      let r = and_parts (leb 1 count) (leb count MAX-ROWS) (not-false (leb 1 count && leb count MAX-ROWS) none.1.0) in
       let w = all_true (all_below contents.trace) lists (not-false (all_words_below contents) none.1.1.1.0) in
       record {
         lengths = right contents form n (not-false (right_lengths form contents n) none.0);

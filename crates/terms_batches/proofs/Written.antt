@@ -9,6 +9,7 @@ use native.Mathlib.Omega.{arith}
 use lib.Dec.{eqb, lit<, lit≤}
 use lib.ListN.{length}
 use borrow.Author.Tests.{le-ltb, ne_eqb}
+use Rattle.std.specs.Prelude.{Ok}
 use Rattle.field_base.specs.Words.{all_below}
 use Rattle.field_montgomery.specs.Form.{in_form}
 use Rattle.air.specs.MainColumn.{MAIN-WIDTH}
@@ -22,7 +23,6 @@ use Rattle.field_montgomery.specs.declared.Form.TheVariants.{Plain, Montgomery}
 use Rattle.batch_commands.specs.Form.{row_command, other_form}
 use Rattle.batch_commands.proofs.Tables.{of_each, of_any, row_known, row_limit, row_rank}
 use Rattle.batch_commands.proofs.Laid.{laid_append}
-use Rattle.batch_reader.specs.declared.OpenAnswer.TheVariants.{Opened}
 use Rattle.batch_reader.specs.Commands.{count, counts, contents, form_of, slice_from, announced, height_of}
 use Rattle.batch_reader.specs.Reading.{read, reading}
 use Rattle.batch_reader.specs.Answers.{counts_in}
@@ -222,9 +222,9 @@ module _ (form : Form) (c : Contents) (n : ℕ) (w : Writable c n) where
   counts_so : counts_in (counts (commands_in form c)) (height_of (commands_in form c)) ≡ counts_of c
   counts_so = rw (rows_of form (commands_in form c) sound_so, count-rows, counts_alike OP-STACK refl refl, counts_alike RAM refl refl, counts_alike JUMP-STACK refl refl, counts_alike INPUT refl refl, counts_alike OUTPUT refl refl, height_so) (simp (zero-add, add-zero))
 
-  opens : (lent : Contents) → RightSlices lent → opened (batch_of form c) lent ≡ Opened (counts_of c)
+  opens : (lent : Contents) → RightSlices lent → opened (batch_of form c) lent ≡ Ok (counts_of c)
   unfolding open_answer
-  opens lent right = rw (le-ltb MAX-BYTES (length (batch_of form c)) short, right, reads) (ap Opened counts_so)
+  opens lent right = rw (le-ltb MAX-BYTES (length (batch_of form c)) short, right, reads) (ap Ok counts_so)
 
   -- what a kind brings
   brings : (code : ℕ) (ws : List ℕ) → eqb TRACE-ROWS code ≡ false → held code (sections_of form c) ≡ ws ++ [] → contents code (commands_in form c) ≡ ws

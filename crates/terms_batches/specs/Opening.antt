@@ -1,11 +1,11 @@
 -- Opening, by the definitions that the contract of `open` cites, with what the eight lent slices hold as one record.
-use Rattle.std.specs.Prelude.{List, ℕ, ◌*◌, ◌<◌, length, take, get_or}
+use Rattle.std.specs.Prelude.{List, ℕ, ◌*◌, ◌<◌, length, take, get_or, Result}
+use Rattle.refusal.specs.declared.Refusal.{Refusal}
 use Rattle.air.specs.MainColumn.{MAIN-WIDTH}
 use Rattle.table_rows.specs.Rows.{rows}
 use Rattle.batch_commands.specs.Format.{ROW, OP-STACK, RAM, JUMP-STACK, SAMPLED, DIGEST, INPUT, OUTPUT}
 use Rattle.field_montgomery.specs.declared.Form.{Form}
 use Rattle.batch_reader.specs.declared.Counts.{Counts}
-use Rattle.batch_reader.specs.declared.OpenAnswer.{OpenAnswer}
 use Rattle.batch_reader.specs.Commands.{form_of}
 use Rattle.batch_reader.specs.Reading.{reading, commands_of}
 use Rattle.batch.specs.Open.{open_answer, open_slice}
@@ -16,7 +16,7 @@ abbrev pub Bytes : List ℕ → Type 0
 Bytes batch = (i : ℕ) → i < length batch → get_or batch i 0 < 256
 
 -- what open answers
-abbrev pub opened : List ℕ → Contents → OpenAnswer
+abbrev pub opened : List ℕ → Contents → Result Counts Refusal
 opened batch lent =
     open_answer batch (length lent.trace) (length lent.op_stack) (length lent.ram) (length lent.jump_stack) (length lent.sampled)
     (length lent.digest) (length lent.input) (length lent.output)

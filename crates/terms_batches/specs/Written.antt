@@ -1,10 +1,9 @@
 -- "a writer that produces them": what it writes opens to what it was given, and what was opened is written again as it was.
-use Rattle.std.specs.Prelude.{◌≡◌, true, List, ℕ, suc, ◌≤◌, ◌<◌, length, get_or}
-use Rattle.refusal.specs.declared.Answer.TheVariants.{Done}
+use Rattle.std.specs.Prelude.{◌≡◌, true, List, ℕ, suc, ◌≤◌, ◌<◌, length, get_or, Ok}
+use Rattle.refusal.specs.Number.{Done}
 use Rattle.table_fill.specs.Fill.{count}
 use Rattle.field_montgomery.specs.declared.Form.{Form}
 use Rattle.batch_reader.specs.declared.Counts.{Counts}
-use Rattle.batch_reader.specs.declared.OpenAnswer.TheVariants.{Opened}
 use Rattle.batch.specs.Open.{right_lengths}
 use Rattle.batch_sorted.specs.Sorted.{sorted}
 use Rattle.batch_writer.specs.Contents.{Contents}
@@ -51,7 +50,7 @@ WrittenOpens =
     (form : Form) (contents : Contents) (batch : List ℕ) → write_answer form contents (length batch) ≡ Done
     → (lent : Contents) → RightSlices lent
     → let written = write_batch form contents batch in
-    (opened written lent ≡ Opened (counts_of contents)) × (up_to (counts_of contents) (slices_after written lent) ≡ with_sorted_lists contents)
+    (opened written lent ≡ Ok (counts_of contents)) × (up_to (counts_of contents) (slices_after written lent) ≡ with_sorted_lists contents)
 
 -- and its rows have the form that was asked for
 abbrev pub WrittenForm : Type 0
@@ -61,7 +60,7 @@ WrittenForm = (form : Form) (contents : Contents) (batch : List ℕ) → write_a
 abbrev pub WrittenAgain : Type 0
 WrittenAgain =
     (batch : List ℕ) → Bytes batch
-    → (lent : Contents) (counts : Counts) → opened batch lent ≡ Opened counts
+    → (lent : Contents) (counts : Counts) → opened batch lent ≡ Ok counts
     → (slice : List ℕ) → length slice ≡ length batch
     → let contents = up_to counts (slices_after batch lent) in
     (write_answer (row_form batch) contents (length slice) ≡ Done) × (write_batch (row_form batch) contents slice ≡ batch)

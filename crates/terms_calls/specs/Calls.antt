@@ -16,7 +16,6 @@ use Rattle.extend_answer.specs.Answer.{extend_answer}
 use Rattle.extend_answer.specs.Strict.{strict_answer}
 use Rattle.extend.specs.Extend.{extend_aux, extend_work, strict_aux, strict_work}
 use Rattle.check_columns.specs.Check.{check_answer}
-use Rattle.batch.specs.Open.{open_number}
 use Rattle.batch_writer.specs.Contents.{contents_of}
 use Rattle.batch_writer.specs.Write.{write_answer, write_batch}
 use Rattle.tealbobbin_answers.specs.Field.{base_number_into, base_into, unary_number, unary_out, binary_number, binary_out}
@@ -145,7 +144,7 @@ pub record Term1OfCalls : Type 0 where
   pub open_batch : Call (slice ∷ mut ∷ mut ∷ mut ∷ mut ∷ mut ∷ mut ∷ mut ∷ mut ∷ mut ∷ []) (at_exit contracts.tealbobbin_open.ended) abi.tealbobbin_open.Reads.Asked abi.tealbobbin_open.Reads.Learnt
       (1 ∷ 7 ∷ 8 ∷ 9 ∷ 10 ∷ 3 ∷ 12 ∷ 2 ∷ []) (λ batch trace op_stack ram jump_stack sampled digest input output counts.
       let lent = slices trace op_stack ram jump_stack sampled digest input output counts in
-      (open_number (open_into batch lent), each (slices_after batch lent)))
+      (answer_number_of (open_into batch lent), each (slices_after batch lent)))
   pub write_batch : Call (slice ∷ slice ∷ slice ∷ slice ∷ slice ∷ slice ∷ slice ∷ slice ∷ word ∷ word ∷ mut ∷ []) (at_exit contracts.tealbobbin_write.ended) abi.tealbobbin_write.Reads.Asked abi.tealbobbin_write.Reads.Learnt
       (1 ∷ 3 ∷ 12 ∷ 2 ∷ []) (λ trace op_stack ram jump_stack sampled digest input output form k batch.
       let contents = contents_of trace op_stack ram jump_stack sampled digest input output k in

@@ -5,6 +5,7 @@ use mathlib.Core.Bool.{Bool, true, false, not, ◌&&◌}
 use mathlib.Core.List.{List, [], ◌∷◌, map}
 use Prim.Native.Nat.{ℕ}
 use lib.Dec.{T, eqb, eqb_refl, T_not}
+use mir.Facts.{and_yes}
 use Rattle.algebra.specs.Polynomial.{All, Distinct}
 use Rattle.field.specs.declared.XFieldElement.{XFieldElement}
 use Rattle.air.specs.Count.{up_to}
@@ -22,20 +23,16 @@ abbrev apart : List XFieldElement → Bool
 apart [] = true
 apart (e ∷ es) = without e.c0 es && apart es
 
-both : (s t : Bool) → T (s && t) → T s × T t
-both true t h = (tt, h)
-both false t h = absurd h
-
 differs : (x y : XFieldElement) → T (not (eqb y.c0 x.c0)) → y ≢ x
 differs x y t e = T_not (eqb y.c0 x.c0) t (rw (ap (λ z. z.c0) e) (eqb_refl x.c0))
 
 all_other : (x : XFieldElement) (es : List XFieldElement) → T (without x.c0 es) → All (λ y. y ≢ x) es
 all_other x [] t = tt
-all_other x (y ∷ es) t = let u = both (not (eqb y.c0 x.c0)) (without x.c0 es) t in (differs x y u.0, all_other x es u.1)
+all_other x (y ∷ es) t = let u = and_yes (not (eqb y.c0 x.c0)) (without x.c0 es) t in (differs x y u.0, all_other x es u.1)
 
 distinct : (es : List XFieldElement) → T (apart es) → Distinct es
 distinct [] t = tt
-distinct (e ∷ es) t = let u = both (without e.c0 es) (apart es) t in (all_other e es u.0, distinct es u.1)
+distinct (e ∷ es) t = let u = and_yes (without e.c0 es) (apart es) t in (all_other e es u.0, distinct es u.1)
 
 pub different : (c : Column) → Distinct (map (challenge_at (ten c)) (up_to COUNT))
 different input = distinct (map (challenge_at (ten input)) (up_to COUNT)) tt

@@ -1,12 +1,12 @@
 -- Document 01's values to hold, those marked P, over the definitions that the contracts cite.
-use Rattle.std.specs.Prelude.{◌≡◌, [], ◌∷◌, map, ◌+◌, ◌-◌, ◌*◌, drop, get_or}
+use Rattle.std.specs.Prelude.{◌≡◌, [], ◌∷◌, map, ◌+◌, ◌-◌, ◌*◌, drop, get_or, Ok, Err}
 use Rattle.algebra.specs.Modulus as base
 use Rattle.algebra.specs.Modulus.{p}
 use Rattle.algebra.specs.Polynomial.{Distinct}
 use Rattle.field.specs.Element.{X, lift, difference, product, inverse}
 use Rattle.isa_decoding.specs.Decode.{decoded}
-use Rattle.isa_decoding.specs.declared.Decoded.TheVariants.{Read, Outside}
 use Rattle.isa_decoding.specs.declared.Class.TheVariants.{NumberOfWords}
+use Rattle.isa_decoding.specs.declared.Undecodable.TheVariants.{Outside}
 use Rattle.isa.specs.declared.Instruction.TheVariants.{ReadIo}
 use Rattle.tip5.specs.LookupTable.{lookup_table}
 use Rattle.air.specs.AuxColumn.{AUX-WORDS}
@@ -23,9 +23,9 @@ pub record Cases : Type 0 where
   pub x²_times_x² : product (product X X) (product X X) ≡ record { c0 = 0; c1 = p - 1; c2 = 1 }
   pub one_over_x : inverse X ≡ record { c0 = 1; c1 = 0; c2 = p - 1 }
   pub one_over_2 : base.inverse 2 ≡ 9223372034707292161
-  pub read_io_0 : decoded 73 0 ≡ Outside NumberOfWords (ReadIo 0)
-  pub read_io_6 : decoded 73 6 ≡ Outside NumberOfWords (ReadIo 6)
-  pub read_io_5 : decoded 73 5 ≡ Read (ReadIo 5)
+  pub read_io_0 : decoded 73 0 ≡ Err (Outside NumberOfWords (ReadIo 0))
+  pub read_io_6 : decoded 73 6 ≡ Err (Outside NumberOfWords (ReadIo 6))
+  pub read_io_5 : decoded 73 5 ≡ Ok (ReadIo 5)
   pub byte_0 : get_or lookup_table 0 0 ≡ 0
   pub byte_1 : get_or lookup_table 1 0 ≡ 7
   pub byte_6 : get_or lookup_table 6 0 ≡ 85

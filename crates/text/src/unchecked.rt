@@ -1,4 +1,5 @@
 // Each function writes from `at` on, where the caller lends room enough, and answers where its text ends.
+// kept: no `write!`, since a writer of std promises no `Ok` where there is room, and these promise the text to every such caller.
 ghost use Rattle.std.specs.Prelude.{◌≡◌, ◌+◌, ◌≤◌, length};
 ghost use Rattle.std.proofs.lemmas.List.Edits.{sets};
 ghost use Rattle.text.specs.Text.{decimal, word, refusal_text};
@@ -10,29 +11,23 @@ pub fn put_bytes(text: &[u8], out: &mut [u8], at: usize) -> usize
     ensures end { result ≡ at + length text.now }
     ensures text { out.new ≡ sets out.old at text.now }
 {
-    let mut i: usize = 0;
-    while i < text.len() {
-        out[at + i] = text[i];
-        i += 1;
-    }
-    at + i
+    let end = at + text.len();
+    out[at..end].copy_from_slice(text);
+    end
 }
 
+#[tactic(auto, using(crate::proofs::Digits::printed))]
 pub fn put_decimal(n: u64, out: &mut [u8], at: usize) -> usize
     requires { at + length (decimal n) ≤ length out.old }
     ensures end { result ≡ at + length (decimal n) }
     ensures text { out.new ≡ sets out.old at (decimal n) }
 {
-    if n < 10 {
-        out[at] = b'0' + n as u8;
-        return at + 1;
-    }
-    let end = put_decimal(n / 10, out, at);
-    out[end] = b'0' + (n % 10) as u8;
-    end + 1
+    let mut digits = itoa::Buffer::new();
+    put_bytes(digits.format(n).as_bytes(), out, at)
 }
 
 // The number, and then a space or a line's end.
+#[tactic(auto, using(crate::proofs::Stores::stores, crate::proofs::Digits::at_most_twenty))]
 pub fn put_word(n: u64, then: u8, out: &mut [u8], at: usize) -> usize
     requires { at + 21 ≤ length out.old }
     ensures end { (result ≡ at + length (word n then)) × (result ≤ at + 21) }
@@ -44,11 +39,12 @@ pub fn put_word(n: u64, then: u8, out: &mut [u8], at: usize) -> usize
 }
 
 // At the start of `out`.
+#[tactic(auto, using(crate::proofs::Stores::stores))]
 pub fn put_refusal(refusal: Refusal, out: &mut [u8]) -> usize
     requires { 29 ≤ length out.old }
     ensures end { (result ≡ length (refusal_text refusal)) × (result ≤ 29) }
     ensures text { out.new ≡ sets out.old 0 (refusal_text refusal) }
 {
     let at = put_bytes(b"refused ", out, 0);
-    put_word(refusal::number(refusal) as u64, b'\n', out, at)
+    put_word(u64::from(u32::from(refusal)), b'\n', out, at)
 }

@@ -1,8 +1,8 @@
 // The table of tip5's S-box.
 #![tactic(auto)]
 
-ghost use Rattle.std.specs.Prelude.{◌≡◌, ◌<◌};
-ghost use Rattle.tip5.specs.LookupTable.{lookup_byte, lookup_table};
+ghost use Rattle.std.specs.Prelude.{◌≡◌};
+ghost use Rattle.tip5.specs.LookupTable.{lookup_table};
 
 pub const LOOKUP_TABLE: [u8; 256] = [
     0, 7, 26, 63, 124, 215, 85, 254, 214, 228, 45, 185, 140, 173, 33, 240, 29, 177, 176, 32, 8,
@@ -20,22 +20,9 @@ pub const LOOKUP_TABLE: [u8; 256] = [
     1, 170, 40, 131, 192, 229, 248, 255,
 ];
 
-fn lookup_byte(i: usize) -> u8
-    requires { i < 256 }
-    ensures { result ≡ lookup_byte i }
-{
-    LOOKUP_TABLE[i]
-}
-
 // The table as words.
 pub fn lookup_words() -> [u64; 256]
     ensures { result ≡ lookup_table }
 {
-    let mut words = [0u64; 256];
-    let mut i: usize = 0;
-    while i < 256 {
-        words[i] = lookup_byte(i) as u64;
-        i += 1;
-    }
-    words
+    std::array::from_fn(|i| u64::from(LOOKUP_TABLE[i]))
 }

@@ -3,64 +3,68 @@ use mathlib.Core.Path.{◌≡◌, sym, ap, ◌∙◌}
 use Prim.Native.Nat.{◌+◌, ◌≤◌}
 use native.Mathlib.Omega.{arith}
 use lib.ListN.{length, drop}
+use Rattle.std.specs.Prelude.{Some, Ok, option_map}
+use Rattle.std.proofs.lemmas.Result.{err_from_is_err_and}
 use Rattle.batch_commands.specs.Format.{width}
-use Rattle.batch_reader.specs.declared.Step.TheVariants.{Stop, Next}
-use Rattle.batch_reader.specs.Steps.{step_of}
-use Rattle.batch_reader.proofs.Reached.{nothing_read, stopped_there, known, whole, came_few, reached_next}
+use Rattle.batch_commands.specs.Code.{byte_of}
+use Rattle.batch_reader.specs.Steps.{step_in, step_of}
+use Rattle.batch_reader.proofs.Reached.{nothing_read, refused_there, ended_there, whole, came_few, reached_next}
 use Rattle.batch_reader.proofs.read.Goals as goal
 
-pub loop-answer-init : goal.loop-answer-init
-loop-answer-init c =
+pub loop-code-init : goal.loop-code-init
+loop-code-init c =
     let new = c.new-opener.ensures in
     (ap (λ b. b.now) new.0, rw (new.1, c.seen_nothing-seen.ensures) (nothing_read c.args.batch.now))
 
-pub returns-in-Stop : goal.returns-in-Stop
-returns-in-Stop c =
-    let batch = c.args.batch.now in
-    let seen = c.loop-answer.seen in
-    let at = c.loop-answer.opener.at in
-    let here = c.loop-answer.invariant in
-    let stop : step_of seen (drop at batch) ≡ Stop c.in-Stop.answer = rw here.0 at (sym c.step_at.ensures ∙ c.in-Stop.is) in
-    stopped_there batch seen at here.1 c.in-Stop.answer stop
+pub returns-in_err-code : goal.returns-in_err-code
+returns-in_err-code c =
+    let p = err_from_is_err_and c.from_residual.result c.from_residual.ensures.1 in
+    let here = c.loop-code.invariant in
+    rw (p.1, p.2) (refused_there c.args.batch.now c.loop-code.seen c.loop-code.opener.at here.1 _ (rw here.0 at (sym c.step.ensures ∙ ap step_in c.in_err-code.was)))
 
-pub seen_past-seen-requires : goal.seen_past-seen-requires
-seen_past-seen-requires c =
+pub see-requires : goal.see-requires
+see-requires c =
     let batch = c.args.batch.now in
-    let seen = c.loop-answer.seen in
-    let at = c.loop-answer.opener.at in
-    let here = c.loop-answer.invariant in
-    let code = c.in-Next.code in
-    let next : step_of seen (drop at batch) ≡ Next code = rw here.0 at (sym c.step_at.ensures ∙ c.in-Next.is) in
-    (known batch seen at here.1 code next, rw here.0 (whole batch seen at here.1 code next), came_few batch seen at here.1 code next)
+    let seen = c.loop-code.seen in
+    let at = c.loop-code.opener.at in
+    let here = c.loop-code.invariant in
+    let code = byte_of c.in-Some.code in
+    let next : step_of seen (drop at batch) ≡ Ok (Some code) = rw here.0 at (sym c.step.ensures ∙ ap step_in c.in_ok-code.was ∙ ap (λ o. Ok (option_map byte_of o)) c.in-Some.is) in
+    (rw here.0 (whole batch seen at here.1 code next), came_few batch seen at here.1 code next)
 
 pub past-opener-requires : goal.past-opener-requires
 past-opener-requires c =
     let batch = c.args.batch.now in
-    let seen = c.loop-answer.seen in
-    let at = c.loop-answer.opener.at in
-    let here = c.loop-answer.invariant in
-    let code = c.in-Next.code in
-    let next : step_of seen (drop at batch) ≡ Next code = rw here.0 at (sym c.step_at.ensures ∙ c.in-Next.is) in
-    (known batch seen at here.1 code next, rw here.0 (whole batch seen at here.1 code next))
+    let seen = c.loop-code.seen in
+    let at = c.loop-code.opener.at in
+    let here = c.loop-code.invariant in
+    let code = byte_of c.in-Some.code in
+    let next : step_of seen (drop at batch) ≡ Ok (Some code) = rw here.0 at (sym c.step.ensures ∙ ap step_in c.in_ok-code.was ∙ ap (λ o. Ok (option_map byte_of o)) c.in-Some.is) in
+    rw here.0 (whole batch seen at here.1 code next)
 
-pub loop-answer-smaller : goal.loop-answer-smaller
-loop-answer-smaller c =
+pub loop-code-smaller : goal.loop-code-smaller
+loop-code-smaller c =
     let batch = c.args.batch.now in
-    let seen = c.loop-answer.seen in
-    let at = c.loop-answer.opener.at in
-    let here = c.loop-answer.invariant in
-    let code = c.in-Next.code in
-    let next : step_of seen (drop at batch) ≡ Next code = rw here.0 at (sym c.step_at.ensures ∙ c.in-Next.is) in
+    let seen = c.loop-code.seen in
+    let at = c.loop-code.opener.at in
+    let here = c.loop-code.invariant in
+    let code = byte_of c.in-Some.code in
+    let next : step_of seen (drop at batch) ≡ Ok (Some code) = rw here.0 at (sym c.step.ensures ∙ ap step_in c.in_ok-code.was ∙ ap (λ o. Ok (option_map byte_of o)) c.in-Some.is) in
     let inside : at + 1 + width code ≤ length batch = whole batch seen at here.1 code next in
     omega (arith, c.past-opener.ensures.1)
 
-pub loop-answer-preserved : goal.loop-answer-preserved
-loop-answer-preserved c =
+pub loop-code-preserved : goal.loop-code-preserved
+loop-code-preserved c =
     let batch = c.args.batch.now in
-    let seen = c.loop-answer.seen in
-    let at = c.loop-answer.opener.at in
-    let here = c.loop-answer.invariant in
-    let code = c.in-Next.code in
-    let next : step_of seen (drop at batch) ≡ Next code = rw here.0 at (sym c.step_at.ensures ∙ c.in-Next.is) in
+    let seen = c.loop-code.seen in
+    let at = c.loop-code.opener.at in
+    let here = c.loop-code.invariant in
+    let code = byte_of c.in-Some.code in
+    let next : step_of seen (drop at batch) ≡ Ok (Some code) = rw here.0 at (sym c.step.ensures ∙ ap step_in c.in_ok-code.was ∙ ap (λ o. Ok (option_map byte_of o)) c.in-Some.is) in
     let past = c.past-opener.ensures in
-    (ap (λ b. b.now) past.0 ∙ here.0, rw (past.1, c.seen_past-seen.ensures, here.0) (reached_next batch seen at here.1 code next))
+    (ap (λ b. b.now) past.0 ∙ here.0, rw (past.1, c.see.ensures, here.0) (reached_next batch seen at here.1 code next))
+
+pub returns : goal.returns
+returns c =
+    let here = c.loop-code.invariant in
+    ap Ok c.counts_in.ensures ∙ ended_there c.args.batch.now c.loop-code.seen c.loop-code.opener.at here.1 (rw here.0 at (sym c.step.ensures ∙ ap step_in c.in_ok-code.was ∙ ap (λ o. Ok (option_map byte_of o)) c.in_default.is))

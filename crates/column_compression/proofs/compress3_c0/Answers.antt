@@ -1,11 +1,11 @@
--- As the whole sum, of which one coefficient is settled.
+-- Before the loop no word is in the sum.
 use borrow.Author.Rules.{rules}
-use mathlib.Core.Path.{ap, ◌∙◌}
-use Rattle.column_compression.proofs.Weigh.{three}
+use mathlib.Core.Path.{sym, ap}
+use Rattle.column_compression.proofs.Weigh.{none_left}
 use Rattle.column_compression.proofs.compress3_c0.Goals as goal
 
-pub returns : goal.returns
-returns c =
-    c.settle.ensures
-    ∙ ap (λ e. e.c0)
-    (three c.args.weights c.args.words 0 (search rules) (search rules) c.weigh_last-last.ensures.0 c.weigh_more-last_two.ensures.0 c.weigh_more-sums.ensures.0)
+pub loop-i-init : goal.loop-i-init
+loop-i-init c = record {
+  few = search rules;
+  is = sym (ap (λ e. e.c0) (none_left c.args.weights c.args.words 3 3 (search rules)));
+}

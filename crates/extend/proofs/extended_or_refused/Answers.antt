@@ -4,7 +4,7 @@ use mathlib.Core.Bool.{Bool}
 use mathlib.Core.List.{List}
 use Prim.Native.Nat.{ℕ}
 use lib.ListN.{replicate}
-use Rattle.refusal.specs.declared.Answer.TheVariants.{Done}
+use Rattle.refusal.specs.Number.{Done}
 use Rattle.refusal.proofs.First.{done_exactly}
 use Rattle.extend_answer.specs.Answer.{extend_tests, extend_answer}
 use Rattle.extend_answer.specs.Strict.{tests_in, answer_in}
@@ -21,13 +21,13 @@ plainly strict main challenges chunk aux work e =
 
 pub extend_by_chunks-requires : goal.extend_by_chunks-requires
 extend_by_chunks-requires c =
-    let done : let args = c.args in extend_answer args.main.now args.challenges.now args.chunk args.aux.now args.work.now ≡ Done = let args = c.args in
-    plainly args.strict args.main.now args.challenges.now args.chunk args.aux.now args.work.now (sym c.extend_answer-answer.ensures ∙ c.in-Done.is) in
-    let accepted : let args = c.args in Accepted args.main.now args.challenges.now args.chunk args.aux.now args.work.now = let args = c.args in passed args.main.now args.challenges.now args.chunk args.aux.now args.work.now (done) in
-    let a = accepted in record { ready_table = ready _ _ _ _ _ (done); chunk_nonzero = (a.chunk_positive, a.fitting.whole); challenges_value = a.no_zero; aux_len = a.fitting.aux_length; work_len = a.work_length }
-
-pub returns-in-Refused : goal.returns-in-Refused
-returns-in-Refused c = record { answer = sym c.in-Refused.is ∙ c.extend_answer-answer.ensures; extended = refl; cleared = refl }
-
-pub returns-in-Done : goal.returns-in-Done
-returns-in-Done c = record { answer = sym c.in-Done.is ∙ c.extend_answer-answer.ensures; extended = c.extend_by_chunks.ensures.extended; cleared = c.clear.ensures ∙ ap (λ n. replicate n 0) c.extend_by_chunks.ensures.long }
+    let args = c.args in
+    let done = plainly args.strict args.main.now args.challenges.now args.chunk args.aux.now args.work.now (sym c.in_ok-extend_answer.ensures) in
+    let a = passed args.main.now args.challenges.now args.chunk args.aux.now args.work.now done in
+    record {
+      ready_table = ready args.main.now args.challenges.now args.chunk args.aux.now args.work.now done;
+      chunk_nonzero = (a.chunk_positive, a.fitting.whole);
+      challenges_value = a.no_zero;
+      aux_len = a.fitting.aux_length;
+      work_len = a.work_length;
+    }

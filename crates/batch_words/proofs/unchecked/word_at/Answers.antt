@@ -1,7 +1,12 @@
--- The low half, and 2^32 times the high one.
-use Rattle.batch_words.proofs.Bytes.{halves}
+-- The bytes that stand there.
+use mathlib.Core.Path.{ap, ◌∙◌}
+use lib.Dec.{lit<}
+use Rattle.std.specs.Int.{from_le_bytes, w64}
+use Rattle.batch_words.proofs.Bytes.{eight_bytes, chunk_there}
 use Rattle.batch_words.proofs.unchecked.word_at.Goals as goal
 
 pub returns : goal.returns
 returns c =
-    rw (c.half_at-low.ensures, c.half_at-high.ensures, halves c.args.batch.now c.args.at c.requires)
+    let batch = c.args.batch.now in
+    let at = c.args.at in
+    c.from_le_bytes.ensures ∙ ap (from_le_bytes w64) (chunk_there 8 _ batch at (lit< tt) c.requires c.as_chunks.ensures.front) ∙ eight_bytes batch at c.requires

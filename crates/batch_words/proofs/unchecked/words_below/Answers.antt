@@ -1,15 +1,10 @@
 -- What is below p so far leaves the words from i on to decide.
-use borrow.Author.Rules.{rules}
-use mathlib.Core.Path.{◌≡◌, refl, sym, ◌∙◌}
-use Prim.Native.Nat.{◌-◌}
+use mathlib.Core.Path.{◌≡◌, sym, ◌∙◌}
 use lib.ListN.{drop, get_or}
 use Rattle.field_base.proofs.Below.{fails_at, holds_at, holds_past}
 use Rattle.batch_words.specs.Words.{words}
 use Rattle.batch_words.proofs.Bytes.{length-words, within_words, word_of}
 use Rattle.batch_words.proofs.unchecked.words_below.Goals as goal
-
-pub loop-i-init : goal.loop-i-init
-loop-i-init c = (search rules, refl)
 
 pub returns-then-word_at-ge-P : goal.returns-then-word_at-ge-P
 returns-then-word_at-ge-P c =
@@ -18,7 +13,7 @@ returns-then-word_at-ge-P c =
     let ws = words args.n (drop args.at args.batch.now) in
     let taken = c.loop-i-test.true in
     let e : c.word_at.result ≡ get_or ws i 0 = c.word_at.ensures ∙ sym (word_of args.batch.now args.at args.n i taken) in
-    sym (c.loop-i.invariant.1 ∙ fails_at ws i (within_words args.n _ i taken) (rw e at c.if-word_at-ge-P.true))
+    sym (c.loop-i.invariant ∙ fails_at ws i (within_words args.n _ i taken) (rw e at c.if-word_at-ge-P.true))
 
 pub loop-i-preserved : goal.loop-i-preserved
 loop-i-preserved c =
@@ -27,11 +22,10 @@ loop-i-preserved c =
     let ws = words args.n (drop args.at args.batch.now) in
     let taken = c.loop-i-test.true in
     let e : c.word_at.result ≡ get_or ws i 0 = c.word_at.ensures ∙ sym (word_of args.batch.now args.at args.n i taken) in
-    (search rules, c.loop-i.invariant.1 ∙ holds_at ws i (within_words args.n _ i taken) (rw e at c.if-word_at-ge-P.false))
+    c.loop-i.invariant ∙ holds_at ws i (within_words args.n _ i taken) (rw e at c.if-word_at-ge-P.false)
 
 pub returns : goal.returns
 returns c =
     let args = c.args in
-    let i = c.loop-i.i in
     let ws = words args.n (drop args.at args.batch.now) in
-    sym (c.loop-i.invariant.1 ∙ holds_past ws i (rw length-words c.loop-i-test.false))
+    sym (c.loop-i.invariant ∙ holds_past ws c.loop-i.i (rw length-words c.loop-i-test.false))

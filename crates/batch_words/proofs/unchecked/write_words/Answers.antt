@@ -1,7 +1,6 @@
 -- The bytes of the first i words are in the batch, which is as it was elsewhere.
-use borrow.Author.Rules.{rules}
-use mathlib.Core.Path.{◌≡◌, refl, sym, ap₂, ◌∙◌}
-use Prim.Native.Nat.{◌+◌, ◌-◌, ◌*◌}
+use mathlib.Core.Path.{◌≡◌, sym, ap₂, ◌∙◌}
+use Prim.Native.Nat.{◌+◌, ◌*◌}
 use native.Mathlib.Omega.{arith}
 use lib.ListN.{get_or}
 use lib.Seq.{take_all}
@@ -15,7 +14,7 @@ use Rattle.batch_words.proofs.unchecked.write_words.Goals as goal
 
 pub loop-i-init : goal.loop-i-init
 unfolding bytes_of
-loop-i-init c = let args = c.args in (search rules, refl, pasted_none args.batch.now args.at)
+loop-i-init c = pasted_none c.args.batch.now c.args.at
 
 pub loop-i-preserved : goal.loop-i-preserved
 loop-i-preserved c =
@@ -24,14 +23,10 @@ loop-i-preserved c =
     let ws = in_form args.form args.words.now in
     let long = length-in_form args.form args.words.now in
     let word : c.word_in.result ≡ get_or ws i 0 = c.word_in.ensures ∙ sym (in_form_at args.form args.words.now i) in
-    let wrote = c.write_word in (
-      search rules,
-      wrote.auto.batch ∙ c.loop-i.invariant.1,
-      wrote.ensures ∙ ap₂ (λ l w. pasted l (args.at + 8 * i) (little_endian 8 w)) c.loop-i.invariant.2 word ∙ word_on args.batch.now args.at ws i (omega arith) (omega arith),
-    )
+    c.write_word.ensures ∙ ap₂ (λ l w. pasted l (args.at + 8 * i) (little_endian 8 w)) c.loop-i.invariant word ∙ word_on args.batch.now args.at ws i (omega arith) (omega arith)
 
 pub returns : goal.returns
 returns c =
     let args = c.args in
     let ws = in_form args.form args.words.now in
-    c.loop-i.invariant.2 ∙ rw (take_all c.loop-i.i ws (omega (arith, length-in_form args.form args.words.now, c.loop-i-test.false)))
+    c.loop-i.invariant ∙ rw (take_all c.loop-i.i ws (omega (arith, length-in_form args.form args.words.now, c.loop-i-test.false)))

@@ -1,8 +1,7 @@
 -- No words stand behind these.
-use mathlib.Core.Path.{◌∙◌}
-use Rattle.field.proofs.Laws.{sum_zero}
-use Rattle.column_entries.proofs.Weigh.{weigh_canonical}
+use lib.ListN.{drop}
+use Rattle.column_compression.proofs.Weigh.{all_words}
 use Rattle.column_states.proofs.unchecked.weigh_state.Goals as goal
 
 pub returns : goal.returns
-returns c = (c.weigh.ensures.0 ∙ sum_zero _ (weigh_canonical _ _), c.weigh.ensures.1)
+returns g c = (all_words (drop c.args.from c.args.weights) c.args.words.now c.weigh_words.ensures.0, c.weigh_words.ensures.1)

@@ -1,4 +1,4 @@
--- Both parts together are all columns, which make the row.
+-- The columns one after the other make the row.
 use borrow.Author.Rules.{rules}
 use Rattle.column_entries.specs.AuxRow.{placed}
 use Rattle.column_entries.proofs.AuxRow.{placed_row}

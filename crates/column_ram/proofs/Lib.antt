@@ -1,2 +1,0 @@
--- Laws of what instructions access.
-pub mod Accesses

@@ -1,5 +1,0 @@
--- Each weight is read at its place.
-use Rattle.column_weights.proofs.unchecked.jump_stack_weights.Goals as goal
-
-pub returns : goal.returns
-returns c = cc

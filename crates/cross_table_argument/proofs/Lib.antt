@@ -1,2 +1,0 @@
--- Laws on the symbols of an argument.
-pub mod Symbols

@@ -1,0 +1,6 @@
+-- At most 18 differences for each of the words.
+use Rattle.std.proofs.Common.{◌*◌, ◌≤◌}
+use Rattle.list_instructions.proofs.main.Given as goal
+
+abbrev pub invariant-loop-word : goal.invariant-loop-word
+invariant-loop-word l = l.count ≤ 36 * l.word

@@ -1,9 +1,0 @@
--- One turn a cell.
-use Prim.Native.Nat.{◌-◌, ◌≤◌}
-use Rattle.list_vectors.proofs.same_cells.Given as goal
-
-abbrev pub invariant-loop-k : goal.invariant-loop-k
-invariant-loop-k l = l.k ≤ 33
-
-abbrev pub decreases-loop-k : goal.decreases-loop-k
-decreases-loop-k l = 33 - l.k

@@ -1,9 +1,0 @@
--- Eight bytes at most are read.
-use Prim.Native.Nat.{◌-◌, ◌≤◌}
-use Rattle.list_vectors.proofs.same_word.Given as goal
-
-abbrev pub invariant-loop-j : goal.invariant-loop-j
-invariant-loop-j l = l.j ≤ 8
-
-abbrev pub decreases-loop-j : goal.decreases-loop-j
-decreases-loop-j l = 8 - l.j

@@ -1,0 +1,5 @@
+// Scans in place, by chunks.
+#![tactic(auto)]
+
+pub mod steps;
+pub mod unchecked;

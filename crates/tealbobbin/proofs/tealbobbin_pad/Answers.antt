@@ -1,7 +1,0 @@
--- What `pad` answers and leaves.
-use mathlib.Core.Path.{ap, ◌∙◌}
-use Rattle.refusal.specs.Number.{answer_number_of}
-use Rattle.tealbobbin.proofs.tealbobbin_pad.Goals as goal
-
-pub returns : goal.returns
-returns c = record { number = c.answer_number.ensures ∙ ap answer_number_of c.pad.ensures.answer; padded = c.pad.ensures.padded }

@@ -1,7 +1,0 @@
--- What `terminals` answers and leaves.
-use mathlib.Core.Path.{ap, ◌∙◌}
-use Rattle.refusal.specs.Number.{answer_number_of}
-use Rattle.tealbobbin.proofs.tealbobbin_terminals.Goals as goal
-
-pub returns : goal.returns
-returns c = record { number = c.answer_number.ensures ∙ ap answer_number_of c.terminals.ensures.answer; written = c.terminals.ensures.cells }

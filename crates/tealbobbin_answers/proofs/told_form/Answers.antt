@@ -1,9 +1,0 @@
--- The one test.
-use borrow.Author.Tests.{eq-eqb, ne_eqb}
-use Rattle.tealbobbin_answers.proofs.told_form.Goals as goal
-
-pub returns-then-word-eq0 : goal.returns-then-word-eq0
-returns-then-word-eq0 c = rw (eq-eqb _ 0 c.if-word-eq0.true)
-
-pub returns-else-word-eq0 : goal.returns-else-word-eq0
-returns-else-word-eq0 c = rw (ne_eqb _ 0 c.if-word-eq0.false)
