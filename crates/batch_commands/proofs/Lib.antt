@@ -1,5 +1,4 @@
--- Laws on tables and layouts, and the judge.
+-- Laws on tables and layouts, and on a k.
 pub mod Tables
 pub mod Laid
 pub mod Heights
-mod Judging

@@ -10,7 +10,8 @@ ghost use Rattle.batch_commands.specs.Fault.{wrong_height, head_of};
 use field_montgomery::Form;
 use refusal::Refusal;
 
-// For callers that know that a command's operand is whole.
+pub mod command;
+// For callers that know that a command is within its count.
 pub mod unchecked;
 
 // Each with its byte.

@@ -5,7 +5,7 @@ use mathlib.Core.List.{List, [], ◌∷◌}
 use Prim.Native.Nat.{ℕ, ◌+◌, ◌≤◌}
 use native.Mathlib.Omega.{arith}
 use lib.Dec.{eqb, ltb}
-use lib.ListN.{length, drop, length-drop}
+use lib.ListN.{length, drop}
 use lib.Seq.{drop-drop}
 use borrow.Author.Tests.{ltb-false, eqb-false}
 use Rattle.refusal.specs.declared.Refusal.TheVariants.{UnknownCommand, BatchCutOff}
@@ -39,19 +39,22 @@ module _ (seen : Seen) where
   refused_step [] r e = let z : BatchCutOff ≡ r = cc in rw z
   refused_step (code ∷ bytes) r e = sym (refused_by code (not (known code)) (ltb (length bytes) (width code)) _ r e)
 
-  whole_step : (bytes : List ℕ) (k : ℕ) → head_of bytes ≡ Ok k
-      → (1 + width k ≤ length bytes) × (step_by (judged seen k (drop 1 bytes)) k ≡ step_of seen bytes)
+  step_on : (bytes : List ℕ) (k : ℕ) → head_of bytes ≡ Ok k → step_of seen bytes ≡ step_by (judged seen k (drop 1 bytes)) k
   unfolding fault judged
-  whole_step [] k e = let z : ◌≡◌ {A = ℕ} 0 1 = cc in (omega arith, cc)
-  whole_step (code ∷ bytes) k e =
-      let h = whole_by code (not (known code)) (ltb (length bytes) (width code)) k e in
-      let whole = ltb-false (length bytes) (width code) h.1 in
-      rw h.2 (omega arith, rw (h.0, h.1))
+  step_on [] k e = cc
+  step_on (code ∷ bytes) k e = let h = whole_by code (not (known code)) (ltb (length bytes) (width code)) k e in rw (h.2, h.0, h.1)
 
-pub step_there : (seen : Seen) (batch : List ℕ) (at k : ℕ) → head_of (drop at batch) ≡ Ok k → (at + 1 + width k ≤ length batch) × (step_by (judged seen k (drop (at + 1) batch)) k ≡ step_of seen (drop at batch))
-step_there seen batch at k e =
-    let w = whole_step seen (drop at batch) k e in
-    (omega (arith, w.0, length-drop at batch), rw drop-drop at w.1)
+pub step_there : (seen : Seen) (batch : List ℕ) (at k : ℕ) (rest : List ℕ) {answer : Result (Unit {0}) Refusal} → head_of (drop at batch) ≡ Ok k → rest ≡ drop (at + 1) batch → answer ≡ judged seen k rest
+    → step_of seen (drop at batch) ≡ step_by answer k
+step_there seen batch at k rest e q a = rw (a, q) (rw drop-drop at (step_on seen (drop at batch) k e))
+
+whole : (bytes : List ℕ) (k : ℕ) → head_of bytes ≡ Ok k → width k ≤ length (drop 1 bytes)
+whole [] k e = let z : ◌≡◌ {A = ℕ} 0 1 = cc in omega arith
+whole (code ∷ bytes) k e = let h = whole_by code (not (known code)) (ltb (length bytes) (width code)) k e in rw h.2 (ltb-false (length bytes) (width code) h.1)
+
+-- an operand is whole
+pub whole_there : (batch : List ℕ) (at k : ℕ) → head_of (drop at batch) ≡ Ok k → width k ≤ length (drop (at + 1) batch)
+whole_there batch at k e = rw drop-drop at (whole (drop at batch) k e)
 
 -- a step that refuses answers what the definition does
 pub stopped : (answer : Result (Unit {0}) Refusal) (code : ℕ) (next : Reading) (r : Refusal) → step_by answer code ≡ Err r → Err r ≡ answer_of (unless answer next)

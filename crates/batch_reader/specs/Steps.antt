@@ -5,7 +5,7 @@ use Rattle.batch_words.specs.Words.{number}
 use Rattle.batch_commands.specs.Format.{END, TRACE-ROWS, HEIGHT, COMMANDS, width, rank, key, Command}
 use Rattle.batch_commands.specs.declared.Seen.{Seen}
 use Rattle.batch_commands.specs.Fault.{fault}
-use Rattle.batch_commands.specs.declared.Code.{Code}
+use Rattle.batch_commands.specs.declared.command.Command.{Command as Whole}
 use Rattle.batch_commands.specs.Code.{byte_of}
 use Rattle.refusal.specs.declared.Refusal.{Refusal}
 
@@ -32,8 +32,8 @@ step_of seen [] = Err BatchCutOff
 step_of seen (code ∷ bytes) = step_by (fault seen code bytes) code
 
 -- a step of the code by the command's byte
-abbrev pub step_in : Result (Option Code) Refusal → Result (Option ℕ) Refusal
-step_in (Ok code) = Ok (option_map byte_of code)
+abbrev pub step_in : Result (Option Whole) Refusal → Result (Option ℕ) Refusal
+step_in (Ok next) = Ok (option_map (λ command. byte_of command.code) next)
 step_in (Err refusal) = Err refusal
 
 -- the bytes of the commands of a rank below r

@@ -1,15 +1,16 @@
 // Reading a batch from left to right.
 #![tactic(auto)]
 
-ghost use Rattle.std.specs.Prelude.{◌≡◌, ◌+◌, ◌≤◌, length, drop, get_or};
-ghost use Rattle.batch_commands.specs.Format.{width, MAX-DIFFERENCES};
+ghost use Rattle.std.specs.Prelude.{◌≡◌, ◌+◌, ◌≤◌, drop, get_or, IfOk, IfSome};
+ghost use Rattle.batch_commands.specs.Format.{MAX-DIFFERENCES};
 ghost use Rattle.batch_commands.specs.Code.{byte_of};
 ghost use Rattle.batch_reader.specs.Reading.{reading};
 ghost use Rattle.batch_reader.specs.Answers.{counts_in, answer_of};
 ghost use Rattle.batch_reader.specs.Steps.{seen_nothing, seen_past, step_in, step_of};
 
 use crate::opener::Opener;
-use batch_commands::unchecked::{announced, count, judge, key_at, log2_height, rows_in};
+use batch_commands::command::Command;
+use batch_commands::unchecked::{count, rows_in};
 use batch_commands::{Code, Seen};
 use refusal::Refusal;
 
@@ -56,27 +57,28 @@ fn counts_in(came: &[usize; Code::COUNT], log2_height: usize) -> Counts
 }
 
 // The command that stands there, if nothing is wrong with it; None for the last, 00.
-fn step(opener: Opener, seen: &Seen) -> Result<Option<Code>, Refusal>
-    ensures { step_in result ≡ step_of seen.now (drop opener.entry.at opener.entry.batch.now) }
+fn step<'a>(opener: Opener<'a>, seen: &Seen) -> Result<Option<Command<'a>>, Refusal>
+    ensures value { step_in result ≡ step_of seen.now (drop opener.entry.at opener.entry.batch.now) }
+    ensures rest { IfOk result (λ next. IfSome next (λ command. command.rest.now ≡ drop (opener.entry.at + 1) opener.entry.batch.now)) }
 {
-    let code = opener.head()?;
-    judge(opener.batch, opener.at + 1, code, seen)?;
-    match code {
+    let command = opener.head()?;
+    command.judge(seen)?;
+    match command.code {
         Code::End => Ok(None),
-        _ => Ok(Some(code)),
+        _ => Ok(Some(command)),
     }
 }
 
-// Remembers the command at a place too.
-fn see(seen: &mut Seen, batch: &[u8], at: usize, code: Code)
-    requires { (at + 1 + width (byte_of code) ≤ length batch.now) × (get_or seen.old.came (byte_of code) 0 ≤ MAX-DIFFERENCES) }
-    ensures { seen.new ≡ seen_past seen.old (byte_of code) (drop (at + 1) batch.now) }
+// Remembers the command too.
+fn see(seen: &mut Seen, command: Command)
+    requires { get_or seen.old.came (byte_of command.code) 0 ≤ MAX-DIFFERENCES }
+    ensures { seen.new ≡ seen_past seen.old (byte_of command.entry.code) command.entry.rest.now }
 {
-    seen.rows = announced(batch, at + 1, code, seen.rows);
-    seen.log2_height = log2_height(batch, at + 1, code, seen.log2_height);
-    count(&mut seen.came, code);
-    seen.rank = code.rank();
-    seen.key = key_at(batch, at + 1, code);
+    seen.rows = command.announced(seen.rows);
+    seen.log2_height = command.log2_height(seen.log2_height);
+    count(&mut seen.came, command.code);
+    seen.rank = command.code.rank();
+    seen.key = command.key();
 }
 
 // The answer to a batch.
@@ -85,9 +87,9 @@ pub fn read(batch: &[u8]) -> Result<Counts, Refusal>
 {
     let mut opener = Opener::new(batch);
     let mut seen = seen_nothing();
-    while let Some(code) = step(opener, &seen)? {
-        see(&mut seen, opener.batch, opener.at, code);
-        opener = opener.past(code);
+    while let Some(command) = step(opener, &seen)? {
+        see(&mut seen, command);
+        opener = opener.past(command.code);
     }
     Ok(counts_in(&seen.came, seen.log2_height))
 }

@@ -1,9 +1,10 @@
 // A lent batch together with how far it has been read.
-ghost use Rattle.std.specs.Prelude.{◌≡◌, ◌+◌, ◌≤◌, length, drop};
+ghost use Rattle.std.specs.Prelude.{◌≡◌, ◌+◌, ◌≤◌, length, drop, MatchResult, IfOk};
 ghost use Rattle.batch_commands.specs.Format.{width};
-ghost use Rattle.batch_commands.specs.Code.{byte_of, byte_in};
+ghost use Rattle.batch_commands.specs.Code.{byte_of};
 ghost use Rattle.batch_commands.specs.Fault.{head_of};
 
+use batch_commands::command::Command;
 use batch_commands::{Code, head_at};
 use refusal::Refusal;
 
@@ -23,10 +24,16 @@ impl<'a> Opener<'a> {
     }
 
     // What stands there.
-    pub(crate) fn head(self) -> Result<Code, Refusal>
-        ensures { byte_in result ≡ head_of (drop self.entry.at self.entry.batch.now) }
+    pub(crate) fn head(self) -> Result<Command<'a>, Refusal>
+        ensures value { MatchResult result (λ command. head_of (drop self.entry.at self.entry.batch.now) ≡ Ok (byte_of command.code)) (λ refusal. head_of (drop self.entry.at self.entry.batch.now) ≡ Err refusal) }
+        ensures rest { IfOk result (λ command. command.rest.now ≡ drop (self.entry.at + 1) self.entry.batch.now) }
     {
-        head_at(self.batch, self.at)
+        let batch = self.batch;
+        let code = head_at(batch, self.at)?;
+        Ok(Command {
+            code,
+            rest: &batch[self.at + 1..],
+        })
     }
 
     // The command that stands there has been read too.

@@ -1,14 +1,12 @@
 -- Bytes at a place: stored one by one, and behind bytes.
 use mathlib.Core.Path.{◌≡◌, refl, sym, ap, ◌∙◌}
 use mathlib.Core.List.{List, [], ◌∷◌, ◌++◌, append_assoc}
-use Prim.Native.Nat.{ℕ, suc, ◌+◌, ◌-◌, ◌≤◌}
+use Prim.Native.Nat.{ℕ, suc, ◌+◌, ◌≤◌}
 use native.Mathlib.Nat.{add-suc}
 use native.Mathlib.Numerals.{add-one}
 use native.Mathlib.Omega.{arith}
 use lib.ListN.{length, take, drop, set, length-append}
-use lib.Seq.{length-take-le, take_at, drop-drop, drop-append-add, take_all, sets, sets-eq, paste-zero}
-use borrow.Rule.Slice.PartMut.{put_mid}
-use Rattle.std.proofs.lemmas.Slice.{put_mid-paste}
+use lib.Seq.{length-take-le, take_at, drop-drop, drop-append-add, sets, sets-eq, paste-zero}
 use Rattle.batch_words.specs.Pasted.{pasted}
 
 -- bytes at at + k, at + suc k, ..
@@ -38,10 +36,6 @@ module _ (batch : List ℕ) (at : ℕ) (bs : List ℕ) (fits : at + length bs �
       ap (λ n. drop (n + length cs) (head ++ tail)) (sym long) ∙ drop-append-add head tail (length cs) ∙ drop-drop (length cs) (at + length bs) batch
       ∙ ap (λ n. drop n batch) past in
       ap (λ l. l ++ cs ++ drop (to + length cs) (head ++ tail)) (take_at head tail to long) ∙ ap (λ l. head ++ cs ++ l) rest ∙ rw (append_assoc (take at batch) bs cs)
-
--- bytes copied to a part
-pub copied : (batch part bytes : List ℕ) (at n : ℕ) → part ≡ bytes → length bytes ≡ n → put_mid at (at + n - at) batch part ≡ pasted batch at bytes
-copied batch part bytes at n e l = put_mid-paste at (at + n - at) batch part bytes (length bytes) e (omega arith) refl ∙ rw (take_all (length bytes) bytes (omega arith))
 
 -- no bytes
 pub pasted_none : (batch : List ℕ) (at : ℕ) → batch ≡ pasted batch at []

@@ -120,11 +120,21 @@ fn write_record(
     requires { (length sampled.now ≡ SAMPLED-WORDS) × (length lent.old ≡ RECORD-WORDS) }
     ensures { lent.new ≡ sampled.now ++ words_of input ++ words_of output ++ words_of lookup ++ words_of digest }
 {
-    lent[..sampled.len()].copy_from_slice(sampled);
+    copy(sampled, lent);
     put_challenge(lent, ChallengeId::STANDARD_INPUT_TERMINAL, input);
     put_challenge(lent, ChallengeId::STANDARD_OUTPUT_TERMINAL, output);
     put_challenge(lent, ChallengeId::LOOKUP_TABLE_PUBLIC_TERMINAL, lookup);
     put_challenge(lent, ChallengeId::COMPRESSED_PROGRAM_DIGEST, digest);
+}
+
+// kept: word by word; `copy_from_slice` between two slices calls memmove, which the archive for C does not need.
+fn copy(from: &[u64], to: &mut [u64])
+    requires { length from.now ≤ length to.old }
+    ensures { to.new ≡ from.now ++ drop (length from.now) to.old }
+{
+    for i in 0..from.len() {
+        to[i] = from[i];
+    }
 }
 
 fn put_challenge(lent: &mut [u64], id: ChallengeId, challenge: XFieldElement)

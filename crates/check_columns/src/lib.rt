@@ -7,6 +7,7 @@ ghost use Rattle.check_columns.specs.Check.{check_answer};
 use air::MainIndex;
 use check_relations::Place;
 use check_relations::unchecked::first_failing;
+use column_weights::ready::Table;
 use extend_answer::{right_lengths, words_answer};
 use extend_denominators::unchecked::has_zero_denominator;
 use refusal::{MAX_LEN, Refusal};
@@ -25,8 +26,9 @@ pub fn check(main: &[u64], challenges: &[u64], offered: &[u64]) -> Result<Option
     words_answer(main)?;
     words_answer(challenges)?;
     words_answer(offered)?;
-    if has_zero_denominator(main, challenges) {
+    let table = Table::new(main, challenges);
+    if has_zero_denominator(table) {
         return Err(Refusal::ZeroDenominator);
     }
-    Ok(first_failing(main, challenges, offered))
+    Ok(first_failing(table, offered))
 }

@@ -1,6 +1,5 @@
 // Reading a row.
 ghost use Rattle.std.specs.Prelude.{◌≡◌, ◌+◌, ◌≤◌, length};
-ghost use Rattle.air.specs.MainColumn.{MAIN-WIDTH};
 ghost use Rattle.column_entries.specs.Row.{words_from, is_padding, instruction_of};
 
 use air::MainIndex;
@@ -19,15 +18,13 @@ pub fn words_from(row: &[u64], column: MainIndex, n: usize) -> &[u64]
     &row[start..end]
 }
 
-pub fn is_padding(row: &[u64]) -> bool
-    requires { length row.now ≡ MAIN-WIDTH }
+pub fn is_padding(row: &[u64; MainIndex::COUNT]) -> bool
     ensures { result ≡ is_padding row.now }
 {
     word_at(row, MainIndex::IS_PADDING) == 1
 }
 
-pub fn instruction_from_row(row: &[u64]) -> Result<Instruction, Undecodable>
-    requires { length row.now ≡ MAIN-WIDTH }
+pub fn instruction_from_row(row: &[u64; MainIndex::COUNT]) -> Result<Instruction, Undecodable>
     ensures { result ≡ instruction_of row.now }
 {
     let ci = word_at(row, MainIndex::CI);

@@ -4,6 +4,7 @@
 ghost use Rattle.std.specs.Prelude.{◌≡◌};
 ghost use Rattle.column_entries.specs.Entries.{shorter, height_change};
 
+use air::MainIndex;
 use isa::Influence;
 
 pub mod unchecked;
@@ -19,7 +20,11 @@ fn op_stack_delta(influence: Influence) -> u64
 }
 
 // The previous or the current row itself.
-fn row_with_shorter_stack<'a>(influence: Influence, prev: &'a [u64], curr: &'a [u64]) -> &'a [u64]
+fn row_with_shorter_stack<'a>(
+    influence: Influence,
+    prev: &'a [u64; MainIndex::COUNT],
+    curr: &'a [u64; MainIndex::COUNT],
+) -> &'a [u64; MainIndex::COUNT]
     ensures value { result ≡ shorter influence prev.entry curr.entry }
     ensures result_value { result.now ≡ shorter influence prev.now curr.now }
 {

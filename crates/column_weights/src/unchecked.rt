@@ -1,25 +1,26 @@
 // The caller knows the record to be whole.
-ghost use Rattle.std.specs.Prelude.{◌≡◌, ◌<◌, length, map, IsTrue, nat_lt};
+ghost use Rattle.std.specs.Prelude.{◌≡◌, ◌<◌, map, IsTrue, nat_lt};
 ghost use Rattle.std.specs.List.{list_all};
-ghost use Rattle.air.specs.ChallengeId.{RECORD-WORDS, COUNT};
+ghost use Rattle.air.specs.ChallengeId.{COUNT};
 ghost use Rattle.challenges.specs.Derived.{challenge_at};
 ghost use Rattle.column_entries.specs.Columns.{instruction, op_stack, ram, jump_stack, hash_input, hash_digest, sponge, u32, weights};
 
-use air::ChallengeId;
+use air::{ChallengeId, RECORD_WORDS};
 use field::XFieldElement;
 
-pub fn challenge(challenges: &[u64], id: ChallengeId) -> XFieldElement
-    requires challenges_len { length challenges.now ≡ RECORD-WORDS }
-    requires id_bound { id.0 < COUNT }
+pub fn challenge(challenges: &[u64; RECORD_WORDS], id: ChallengeId) -> XFieldElement
+    requires { id.0 < COUNT }
     ensures { result ≡ challenge_at challenges.now id.0 }
 {
     field::unchecked::element_at(challenges, id.0 * 3)
 }
 
 // The challenges with these ids.
-fn weights<const N: usize>(challenges: &[u64], ids: [ChallengeId; N]) -> [XFieldElement; N]
-    requires challenges_len { length challenges.now ≡ RECORD-WORDS }
-    requires ids_bound { IsTrue (list_all (λ id. nat_lt id.0 COUNT) ids) }
+fn weights<const N: usize>(
+    challenges: &[u64; RECORD_WORDS],
+    ids: [ChallengeId; N],
+) -> [XFieldElement; N]
+    requires { IsTrue (list_all (λ id. nat_lt id.0 COUNT) ids) }
     ensures { result ≡ map (λ id. challenge_at challenges.now id.0) ids.entry }
 {
     let mut weights = [XFieldElement::ZERO; N];
@@ -29,8 +30,7 @@ fn weights<const N: usize>(challenges: &[u64], ids: [ChallengeId; N]) -> [XField
     weights
 }
 
-pub fn instruction_weights(challenges: &[u64]) -> [XFieldElement; 3]
-    requires { length challenges.now ≡ RECORD-WORDS }
+pub fn instruction_weights(challenges: &[u64; RECORD_WORDS]) -> [XFieldElement; 3]
     ensures { result ≡ weights instruction challenges.now }
 {
     weights(
@@ -43,8 +43,7 @@ pub fn instruction_weights(challenges: &[u64]) -> [XFieldElement; 3]
     )
 }
 
-pub fn op_stack_weights(challenges: &[u64]) -> [XFieldElement; 4]
-    requires { length challenges.now ≡ RECORD-WORDS }
+pub fn op_stack_weights(challenges: &[u64; RECORD_WORDS]) -> [XFieldElement; 4]
     ensures { result ≡ weights op_stack challenges.now }
 {
     weights(
@@ -58,8 +57,7 @@ pub fn op_stack_weights(challenges: &[u64]) -> [XFieldElement; 4]
     )
 }
 
-pub fn ram_weights(challenges: &[u64]) -> [XFieldElement; 4]
-    requires { length challenges.now ≡ RECORD-WORDS }
+pub fn ram_weights(challenges: &[u64; RECORD_WORDS]) -> [XFieldElement; 4]
     ensures { result ≡ weights ram challenges.now }
 {
     weights(
@@ -73,8 +71,7 @@ pub fn ram_weights(challenges: &[u64]) -> [XFieldElement; 4]
     )
 }
 
-pub fn jump_stack_weights(challenges: &[u64]) -> [XFieldElement; 5]
-    requires { length challenges.now ≡ RECORD-WORDS }
+pub fn jump_stack_weights(challenges: &[u64; RECORD_WORDS]) -> [XFieldElement; 5]
     ensures { result ≡ weights jump_stack challenges.now }
 {
     weights(
@@ -89,8 +86,7 @@ pub fn jump_stack_weights(challenges: &[u64]) -> [XFieldElement; 5]
     )
 }
 
-pub fn hash_input_weights(challenges: &[u64]) -> [XFieldElement; 10]
-    requires { length challenges.now ≡ RECORD-WORDS }
+pub fn hash_input_weights(challenges: &[u64; RECORD_WORDS]) -> [XFieldElement; 10]
     ensures { result ≡ weights hash_input challenges.now }
 {
     weights(
@@ -110,8 +106,7 @@ pub fn hash_input_weights(challenges: &[u64]) -> [XFieldElement; 10]
     )
 }
 
-pub fn hash_digest_weights(challenges: &[u64]) -> [XFieldElement; 5]
-    requires { length challenges.now ≡ RECORD-WORDS }
+pub fn hash_digest_weights(challenges: &[u64; RECORD_WORDS]) -> [XFieldElement; 5]
     ensures { result ≡ weights hash_digest challenges.now }
 {
     weights(
@@ -126,8 +121,7 @@ pub fn hash_digest_weights(challenges: &[u64]) -> [XFieldElement; 5]
     )
 }
 
-pub fn sponge_weights(challenges: &[u64]) -> [XFieldElement; 11]
-    requires { length challenges.now ≡ RECORD-WORDS }
+pub fn sponge_weights(challenges: &[u64; RECORD_WORDS]) -> [XFieldElement; 11]
     ensures { result ≡ weights sponge challenges.now }
 {
     weights(
@@ -148,8 +142,7 @@ pub fn sponge_weights(challenges: &[u64]) -> [XFieldElement; 11]
     )
 }
 
-pub fn u32_weights(challenges: &[u64]) -> [XFieldElement; 4]
-    requires { length challenges.now ≡ RECORD-WORDS }
+pub fn u32_weights(challenges: &[u64; RECORD_WORDS]) -> [XFieldElement; 4]
     ensures { result ≡ weights u32 challenges.now }
 {
     weights(

@@ -8,6 +8,7 @@ ghost use Rattle.extend_answer.specs.Answer.{extend_answer};
 ghost use Rattle.extend_answer.specs.Strict.{strict_answer, answer_in};
 ghost use Rattle.extend.specs.Extend.{extend_aux, extend_work, strict_aux, strict_work};
 
+use column_weights::ready::Table;
 use extend_answer::extend_answer;
 use extend_chunks::unchecked::extend_by_chunks;
 use refusal::Refusal;
@@ -55,7 +56,7 @@ fn extended_or_refused(
     ensures cleared { work.new ≡ on_done result (replicate (length work.old) 0) work.old }
 {
     extend_answer(strict, main, challenges, chunk, aux, work)?;
-    extend_by_chunks(main, challenges, chunk, aux, work);
+    extend_by_chunks(Table::new(main, challenges), chunk, aux, work);
     work.fill(0);
     Ok(())
 }

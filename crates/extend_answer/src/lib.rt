@@ -10,6 +10,7 @@ ghost use Rattle.extend_answer.specs.RowsAnswer.{rows_answer};
 
 use air::{AUX_WORDS, MainIndex, RECORD_WORDS};
 use column_compression::unchecked::instruction_from_row;
+use column_weights::ready::Table;
 use extend_denominators::unchecked::has_zero_denominator;
 use refusal::{MAX_LEN, Refusal};
 use table_rows::unchecked::{row_at, started_chunks};
@@ -88,7 +89,7 @@ pub fn extend_answer(
     }
     words_answer(challenges)?;
     rows_answer(strict, main)?;
-    if has_zero_denominator(main, challenges) {
+    if has_zero_denominator(Table::new(main, challenges)) {
         return Err(Refusal::ZeroDenominator);
     }
     Ok(())

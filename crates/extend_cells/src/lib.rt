@@ -9,6 +9,7 @@ use field::XFieldElement;
 pub mod unchecked;
 
 // In the order of the columns.
+// kept: no invariant that their words are below p, since `cells_in` reads a row of any words.
 #[derive(Clone, Copy)]
 pub struct Cells {
     pub input: XFieldElement,

@@ -40,6 +40,7 @@ pub fn plain_word(form: Form, word: u64) -> u64
 }
 
 // A plain word in the form.
+// kept: beside `plain_word`: one function for both ways would take the way by a flag.
 pub fn word_in(form: Form, word: u64) -> u64
     ensures { result ≡ word_in form word }
 {

@@ -1,7 +1,6 @@
 // Each function writes from `at` on, where the caller lends room enough, and answers where its text ends.
 ghost use Rattle.std.specs.Prelude.{◌≡◌, ◌+◌, ◌*◌, ◌≤◌, ◌<◌, length};
 ghost use Rattle.std.proofs.lemmas.List.Edits.{sets};
-ghost use Rattle.air.specs.MainColumn.{MAIN-WIDTH};
 ghost use Rattle.table_rows.specs.Rows.{rows};
 ghost use Rattle.air_names.specs.Instruction.{name_of};
 ghost use Rattle.batch_commands.specs.Format.{MAX-ROWS};
@@ -11,6 +10,7 @@ use air::MainIndex;
 use air::unchecked::word_at;
 use isa::Instruction;
 use isa_decoding::{Class, Undecodable};
+use table_rows::unchecked::row_at;
 use text::unchecked::{put_bytes, put_decimal, put_word};
 
 fn put_name(i: Instruction, out: &mut [u8], at: usize) -> usize
@@ -57,6 +57,7 @@ fn put_outside(class: Class, i: Instruction, nia: u64, out: &mut [u8], at: usize
     put_limits(class, out, at4)
 }
 
+// kept: a row's number as a number, since it is printed; below 100 it has two digits.
 // Three numbers, and a space after each.
 #[tactic(auto, using(text::proofs::Stores::stores, text::proofs::Digits::at_most_two), unfolding(crate::specs::Text::numbers_text))]
 fn put_numbers(row: usize, ci: u64, nia: u64, out: &mut [u8], at: usize) -> usize
@@ -91,8 +92,8 @@ fn put_line(row: usize, ci: u64, nia: u64, out: &mut [u8], at: usize) -> usize
     }
 }
 
-fn put_row(words: &[u64], row: usize, out: &mut [u8], at: usize) -> usize
-    requires { (length words.now ≡ MAIN-WIDTH) × (row < 100) × (at + 114 ≤ length out.old) }
+fn put_row(words: &[u64; MainIndex::COUNT], row: usize, out: &mut [u8], at: usize) -> usize
+    requires { (row < 100) × (at + 114 ≤ length out.old) }
     ensures end { (result ≡ at + length (row_text words.now row)) × (result ≤ at + 114) }
     ensures text { out.new ≡ sets out.old at (row_text words.now row) }
 {
@@ -111,9 +112,7 @@ fn put_lines(trace: &[u64], out: &mut [u8]) -> usize
     let rows = trace.len() / MainIndex::COUNT;
     let mut at = 0;
     for row in 0..rows {
-        let first = row * MainIndex::COUNT;
-        let end = first + MainIndex::COUNT;
-        at = put_row(&trace[first..end], row, out, at);
+        at = put_row(row_at(trace, row), row, out, at);
     }
     at
 }

@@ -1,13 +1,16 @@
 // Compares the instructions with the list on standard input, which list.py takes from the Rust.
 // Each word below 512, and each of them with 2^32 added, is decoded with the arguments 0 to 16 and p - 1.
+// The input ends where a read fails, and a write that fails changes nothing.
 #![tactic(auto)]
 
-ghost use Rattle.std.specs.Prelude.{◌≤◌, IfOk};
+ghost use Rattle.std.specs.Prelude.{◌≤◌};
 
 use isa::Influence;
 use isa_decoding::{Class, Undecodable};
-use standard_input::read_input;
-use std::io;
+use standard_input::read_until_failure;
+
+// A line's length with its end.
+const LINE: usize = 28;
 
 const ARGUMENTS: [u64; 18] = [
     0,
@@ -32,110 +35,132 @@ const ARGUMENTS: [u64; 18] = [
 
 // What the list says of an instruction besides its name.
 #[derive(Clone, Copy)]
-struct Line<'a> {
+struct Line {
     opcode: u64,
-    // "s" and "n" are the classes that have limits.
-    kind: &'a str,
-    // A sign and two digits, or "nn" for the argument.
-    influence: &'a str,
+    // Nothing where no argument is outside.
+    class: Option<Class>,
+    grows: bool,
+    // How far the stack grows or shrinks; nothing where it is by the argument.
+    size: Option<u64>,
 }
 
-fn line_from(text: &str) -> Option<Line<'_>> {
-    let mut words = text.split_whitespace();
-    let _name = words.next()?;
-    let opcode = words.next()?.parse::<u64>().ok()?;
-    let kind = words.next()?;
-    let influence = words.next()?;
-    Some(Line {
-        opcode,
-        kind,
-        influence,
-    })
-}
-
-fn line_of(list: &str, opcode: u64) -> Option<Line<'_>> {
-    list.lines()
-        .filter_map(line_from)
-        .find(|line| line.opcode == opcode)
-}
-
-fn allows(kind: &str, argument: u64) -> bool {
-    match kind {
-        "s" => argument <= 15,
-        "n" => 1 <= argument && argument <= 5,
-        _ => true,
+// A character that is no digit counts as 0.
+fn digit(byte: u8) -> u64
+    ensures { result ≤ 9 }
+{
+    match byte {
+        b'0'..=b'9' => u64::from(byte - b'0'),
+        _ => 0,
     }
 }
 
-// The class as a line has it.
-fn kind_of(class: Class) -> &'static str {
+// The name, which is not read, an opcode of three digits, a letter, and a sign with two digits or "nn".
+fn line_from(text: &[u8; LINE]) -> Line {
+    let [
+        ..,
+        hundreds,
+        tens,
+        ones,
+        _,
+        class,
+        _,
+        sign,
+        size_tens,
+        size_ones,
+        _,
+    ] = *text;
+    Line {
+        opcode: digit(hundreds) * 100 + digit(tens) * 10 + digit(ones),
+        class: match class {
+            b's' => Some(Class::StackElement),
+            b'n' => Some(Class::NumberOfWords),
+            _ => None,
+        },
+        grows: sign == b'+',
+        size: match size_tens {
+            b'n' => None,
+            _ => Some(digit(size_tens) * 10 + digit(size_ones)),
+        },
+    }
+}
+
+fn line_of(list: &[[u8; LINE]], opcode: u64) -> Option<Line> {
+    list.iter()
+        .map(line_from)
+        .find(|line| line.opcode == opcode)
+}
+
+fn allows(class: Option<Class>, argument: u64) -> bool {
     match class {
-        Class::StackElement => "s",
-        Class::NumberOfWords => "n",
+        Some(Class::StackElement) => argument <= 15,
+        Some(Class::NumberOfWords) => 1 <= argument && argument <= 5,
+        None => true,
+    }
+}
+
+fn is_class(listed: Option<Class>, class: Class) -> bool {
+    match class {
+        Class::StackElement => matches!(listed, Some(Class::StackElement)),
+        Class::NumberOfWords => matches!(listed, Some(Class::NumberOfWords)),
     }
 }
 
 // What a line says of the influence.
-fn influence_from(text: &str, argument: u64) -> Option<Influence> {
-    let size = match text.get(1..)? {
-        "nn" => argument,
-        digits => digits.parse::<u64>().ok()?,
-    };
+fn influence(line: Line, argument: u64) -> Influence {
+    let size = line.size.unwrap_or(argument);
     if size == 0 {
-        Some(Influence::Keeps)
-    } else if text.starts_with('+') {
-        Some(Influence::Grows(size))
+        Influence::Keeps
+    } else if line.grows {
+        Influence::Grows(size)
     } else {
-        Some(Influence::Shrinks(size))
+        Influence::Shrinks(size)
     }
 }
 
 // Whether decoding the two words gives what the word's line says.
-fn agrees(line: Option<Line<'_>>, word: u64, argument: u64) -> bool {
+fn agrees(line: Option<Line>, word: u64, argument: u64) -> bool {
     let decoded = isa_decoding::instruction_from(word, argument);
     let Some(line) = line else {
         return matches!(decoded, Err(Undecodable::Unknown));
     };
-    let allowed = allows(line.kind, argument);
+    let allowed = allows(line.class, argument);
     match decoded {
         Err(Undecodable::Unknown) => false,
         Err(Undecodable::Outside(class, i)) => {
-            !allowed && isa::opcode(i) == word && kind_of(class) == line.kind
+            !allowed && isa::opcode(i) == word && is_class(line.class, class)
         }
         Ok(i) => {
             allowed
                 && isa::opcode(i) == word
-                && influence_from(line.influence, argument) == Some(isa::op_stack_size_influence(i))
+                && influence(line, argument) == isa::op_stack_size_influence(i)
         }
     }
 }
 
 // How many arguments give something else than the word's line says, each of which is said.
-fn differences_of(rt: &impl Print, list: &str, word: u64) -> io::Result<u64>
-    ensures { IfOk result (λ count. count ≤ 18) }
+fn differences_of(rt: &impl Print, list: &[[u8; LINE]], word: u64) -> u64
+    ensures { result ≤ 18 }
 {
     let line = line_of(list, word);
     let mut count = 0u64;
     for argument in ARGUMENTS {
         if !agrees(line, word, argument) {
-            println!(rt; "differs: {word} {argument}")?;
+            let _ = println!(rt; "differs: {word} {argument}");
             count += 1;
         }
     }
-    Ok(count)
+    count
 }
 
-fn main(rt: HostRuntime) -> io::Result<()> {
+fn main(rt: HostRuntime) {
     let mut buffer = [0u8; 4096];
-    let n = read_input(&mut rt.stdin(), &mut buffer)?;
-    let list = str::from_utf8(&buffer[..n]).unwrap_or("");
+    let n = read_until_failure(&mut rt.stdin(), &mut buffer);
+    let (list, _) = buffer[..n].as_chunks::<LINE>();
     let mut count = 0u64;
-    for word in 0..512 {
-        count += differences_of(&rt, list, word)?;
-        count += differences_of(&rt, list, word + (1 << 32))?;
+    for start in [0, 1 << 32] {
+        for word in 0..512 {
+            count += differences_of(&rt, list, start + word);
+        }
     }
-    println!(rt;
-        "{} instructions, {count} differences",
-        list.lines().count()
-    )
+    let _ = println!(rt; "{} instructions, {count} differences", list.len());
 }

@@ -1,22 +1,43 @@
 // Compares tip5's published table, on standard input as lines of three digits, with the const of `tip5`.
+// The input ends where a read fails, and a write that fails changes nothing.
 #![tactic(auto)]
 
-use standard_input::read_input;
-use std::io;
+ghost use Rattle.std.specs.Prelude.{◌≤◌};
+
+use standard_input::read_until_failure;
 use tip5::LOOKUP_TABLE;
 
-fn main(rt: HostRuntime) -> io::Result<()> {
+// A line's length with its end.
+const LINE: usize = 4;
+
+// More than a byte: a line that is missing, or a character that is no digit.
+const NO_BYTE: u64 = 1000;
+
+fn digit(byte: u8) -> u64
+    ensures { result ≤ 1000 }
+{
+    match byte {
+        b'0'..=b'9' => u64::from(byte - b'0'),
+        _ => NO_BYTE,
+    }
+}
+
+fn published(line: &[u8; LINE]) -> u64 {
+    let [hundreds, tens, ones, _] = *line;
+    digit(hundreds) * 100 + digit(tens) * 10 + digit(ones)
+}
+
+fn main(rt: HostRuntime) {
     let mut buffer = [0u8; 4096];
-    let n = read_input(&mut rt.stdin(), &mut buffer)?;
-    let text = str::from_utf8(&buffer[..n]).unwrap_or("");
-    let mut lines = text.lines();
+    let n = read_until_failure(&mut rt.stdin(), &mut buffer);
+    let (lines, _) = buffer[..n].as_chunks::<LINE>();
     let mut differences = 0u64;
     for (i, here) in LOOKUP_TABLE.iter().enumerate() {
-        let there = lines.next().unwrap_or("nothing");
-        if there.parse::<u8>().ok() != Some(*here) {
-            println!(rt; "entry {i}: published {there}, here {here}")?;
+        let there = lines.get(i).map_or(NO_BYTE, published);
+        if there != u64::from(*here) {
+            let _ = println!(rt; "entry {i}: published {there}, here {here}");
             differences += 1;
         }
     }
-    println!(rt; "{} bytes, {differences} differences", text.lines().count())
+    let _ = println!(rt; "{} bytes, {differences} differences", lines.len());
 }

@@ -17,17 +17,21 @@ pub fn row(table: &[u64], c: usize) -> [u64; MainIndex::COUNT]
 }
 
 // A row where it stands.
-pub fn row_at(table: &[u64], c: usize) -> &[u64]
+pub fn row_at(table: &[u64], c: usize) -> &[u64; MainIndex::COUNT]
     requires { (c + 1) * MAIN-WIDTH ≤ length table.now }
     ensures { result.now ≡ row_at table.now c }
 {
     let start = c * MainIndex::COUNT;
     let end = start + MainIndex::COUNT;
-    &table[start..end]
+    table[start..end].as_array().unwrap()
 }
 
 // The row before row c, where `before` stands before row 0.
-pub fn row_before<'a>(before: &'a [u64], table: &'a [u64], c: usize) -> &'a [u64]
+pub fn row_before<'a>(
+    before: &'a [u64; MainIndex::COUNT],
+    table: &'a [u64],
+    c: usize,
+) -> &'a [u64; MainIndex::COUNT]
     requires { c * MAIN-WIDTH ≤ length table.now }
     ensures { result.now ≡ row_before before.now (row_at table.now) c }
 {
@@ -37,11 +41,13 @@ pub fn row_before<'a>(before: &'a [u64], table: &'a [u64], c: usize) -> &'a [u64
     row_at(table, c - 1)
 }
 
-pub fn window(prev: &[u64], curr: &[u64]) -> [[u64; MainIndex::COUNT]; 2]
-    requires { (length prev.now ≡ MAIN-WIDTH) × (length curr.now ≡ MAIN-WIDTH) }
+pub fn window(
+    prev: &[u64; MainIndex::COUNT],
+    curr: &[u64; MainIndex::COUNT],
+) -> [[u64; MainIndex::COUNT]; 2]
     ensures { result ≡ prev.now ∷ curr.now ∷ [] }
 {
-    [row(prev, 0), row(curr, 0)]
+    [*prev, *curr]
 }
 
 pub fn put_row(table: &mut [u64], c: usize, row: [u64; MainIndex::COUNT])
@@ -54,13 +60,15 @@ pub fn put_row(table: &mut [u64], c: usize, row: [u64; MainIndex::COUNT])
 }
 
 // Row c of one table into another.
+// kept: word by word, which compiles to moves; `copy_from_slice` between two slices calls memmove, which the archive for C does not need.
 pub fn copy_row(from: &[u64], to: &mut [u64], c: usize)
     requires { ((c + 1) * MAIN-WIDTH ≤ length from.now) × ((c + 1) * MAIN-WIDTH ≤ length to.old) }
     ensures { to.new ≡ with_row MAIN-WIDTH to.old c (row_at from.now c) }
 {
-    let start = c * MainIndex::COUNT;
-    let end = start + MainIndex::COUNT;
-    to[start..end].copy_from_slice(&from[start..end]);
+    let at = c * MainIndex::COUNT;
+    for i in 0..MainIndex::COUNT {
+        to[at + i] = from[at + i];
+    }
 }
 
 // Row c's multiplicity grows, modulo p.

@@ -25,6 +25,8 @@ pub(crate) fn put<const N: usize>(answer: Result<[u64; N], Refusal>, out: &mut [
     }
 }
 
+// kept: slices that C lends, each of a length of its own.
+
 // Hands the counts of an opened batch out through a slice of seven words.
 pub fn put_counts(answer: Result<Counts, Refusal>, counts: &mut [u64]) -> u32
     requires { length counts.old ≡ 7 }

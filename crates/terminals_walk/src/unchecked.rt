@@ -7,6 +7,7 @@ ghost use Rattle.terminals_extended.specs.Extended.{extended_answer, extended_ce
 ghost use Rattle.terminals_walk.specs.Grown.{grown, Growing};
 
 use air::{AUX_WORDS, MainIndex};
+use column_weights::ready::Row;
 use extend_padding::unchecked::walk_padding;
 use refusal::Refusal;
 use table_rows::unchecked::row;
@@ -31,7 +32,7 @@ pub fn walked_cells(
     if rows < height {
         let last = row(main, rows - 1);
         let left = height - rows;
-        walk_padding(cells, last, challenges, rows, left);
+        walk_padding(cells, Row::new(&last, challenges), rows, left);
     }
     Ok(())
 }

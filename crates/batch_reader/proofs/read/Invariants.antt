@@ -5,8 +5,8 @@ use lib.ListN.{length}
 use Rattle.batch_reader.proofs.Reached.{Reached}
 use Rattle.batch_reader.proofs.read.Given as goal
 
-abbrev pub invariant-loop-code : goal.invariant-loop-code
-invariant-loop-code l = (l.opener.batch.now ≡ l.batch) × Reached l.batch l.seen l.opener.at
+abbrev pub invariant-loop-command : goal.invariant-loop-command
+invariant-loop-command l = (l.opener.batch.now ≡ l.batch) × Reached l.batch l.seen l.opener.at
 
-abbrev pub decreases-loop-code : goal.decreases-loop-code
-decreases-loop-code l = length l.batch - l.opener.at
+abbrev pub decreases-loop-command : goal.decreases-loop-command
+decreases-loop-command l = length l.batch - l.opener.at

@@ -3,7 +3,7 @@ use mathlib.Core.Path.{◌≡◌, sym, ap, ◌∙◌}
 use mathlib.Core.List.{List, ◌++◌}
 use Prim.Native.Nat.{ℕ, ◌+◌, ◌≤◌}
 use native.Mathlib.Omega.{arith}
-use lib.ListN.{length, take, drop, length-append}
+use lib.ListN.{length, take, length-append}
 use lib.Seq.{sets, sets-eq, take_at, take_all, length-take-le}
 use Rattle.field.specs.Element.{words_of}
 use Rattle.field.specs.declared.XFieldElement.{XFieldElement}
@@ -19,10 +19,8 @@ behind i e l l' before room stored known =
 
 pub returns : goal.returns
 returns c =
-    let sampled = c.args.sampled.now in
-    let copied = c.copy_from_slice.new.self ++ drop (length sampled) c.args.lent.now in
-    let known0 : take SAMPLED-WORDS copied ≡ sampled = rw c.copy_from_slice.ensures.after (take_at sampled _ SAMPLED-WORDS c.requires.0) in
-    let known1 = behind SAMPLED-WORDS c.args.input copied c.put_challenge.new.lent _ (omega arith) c.put_challenge.ensures known0 in
+    let known0 = ap (take SAMPLED-WORDS) c.copy.ensures ∙ take_at c.args.sampled.now _ SAMPLED-WORDS c.requires.0 in
+    let known1 = behind SAMPLED-WORDS c.args.input c.copy.new.to c.put_challenge.new.lent _ (omega arith) c.put_challenge.ensures known0 in
     let known2 = behind 180 c.args.output c.put_challenge.new.lent c.put_challenge-2.new.lent _ (omega arith) c.put_challenge-2.ensures known1 in
     let known3 = behind 183 c.args.lookup c.put_challenge-2.new.lent c.put_challenge-3.new.lent _ (omega arith) c.put_challenge-3.ensures known2 in
     let known4 = behind 186 c.args.digest c.put_challenge-3.new.lent c.put_challenge-4.new.lent _ (omega arith) c.put_challenge-4.ensures known3 in

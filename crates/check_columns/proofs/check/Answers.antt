@@ -1,6 +1,6 @@
 -- The tests in order.
 use borrow.Author.Tests.{eq-eqb, ne_eqb, lt-ltb, le-ltb}
-use mathlib.Core.Bool.{true, false, or-true}
+use mathlib.Core.Bool.{true, or-true}
 use mathlib.Core.List.{List, [], ◌∷◌}
 use mathlib.Core.Logic.{◌≢◌}
 use mathlib.Core.Path.{◌≡◌, sym, ap, ◌∙◌}
@@ -72,11 +72,14 @@ returns-in_err-words_answer-3 c =
     rw (p.1, p.2)
     (sym (past ∙ rw (words_passed args.main.now c.in_ok-words_answer.ensures, words_passed args.challenges.now c.in_ok-words_answer-2.ensures, over.0) (ap Err (sym over.1))))
 
-pub has_zero_denominator-requires : goal.has_zero_denominator-requires
-has_zero_denominator-requires c =
+pub new-table-requires : goal.new-table-requires
+new-table-requires c =
     let args = c.args in
     let fits = sym c.right_lengths.ensures ∙ c.if-not-right_lengths.false in
-    ready args.main.now args.challenges.now args.offered.now fits (words_passed args.main.now c.in_ok-words_answer.ensures) (words_passed args.challenges.now c.in_ok-words_answer-2.ensures)
+    record {
+      whole = (lengths args.main.now args.challenges.now args.offered.now fits).whole;
+      ready = ready args.main.now args.challenges.now args.offered.now fits (words_passed args.main.now c.in_ok-words_answer.ensures) (words_passed args.challenges.now c.in_ok-words_answer-2.ensures);
+    }
 
 pub returns-then-has_zero_denominator : goal.returns-then-has_zero_denominator
 returns-then-has_zero_denominator c =
@@ -89,7 +92,7 @@ returns-then-has_zero_denominator c =
       words_passed args.main.now c.in_ok-words_answer.ensures,
       words_passed args.challenges.now c.in_ok-words_answer-2.ensures,
       words_passed args.offered.now c.in_ok-words_answer-3.ensures,
-      sym c.has_zero_denominator.ensures ∙ c.if-has_zero_denominator.true,
+      sym (rw (c.new-table.ensures.main, c.new-table.ensures.challenges) at c.has_zero_denominator.ensures) ∙ c.if-has_zero_denominator.true,
     ))
 
 pub first_failing-requires : goal.first_failing-requires
@@ -97,8 +100,7 @@ first_failing-requires c =
     let args = c.args in
     let fits = sym c.right_lengths.ensures ∙ c.if-not-right_lengths.false in
     record {
-      ready_table = ready args.main.now args.challenges.now args.offered.now fits (words_passed args.main.now c.in_ok-words_answer.ensures) (words_passed args.challenges.now c.in_ok-words_answer-2.ensures);
-      offered_len = (lengths args.main.now args.challenges.now args.offered.now fits).aux_length;
+      offered_len = rw c.new-table.ensures.main (lengths args.main.now args.challenges.now args.offered.now fits).aux_length;
       offered_value = words_passed args.offered.now c.in_ok-words_answer-3.ensures;
     }
 
@@ -107,12 +109,12 @@ returns c =
     let args = c.args in
     let fits = sym c.right_lengths.ensures ∙ c.if-not-right_lengths.false in
     let past = past_rows args.main.now args.challenges.now args.offered.now fits c.if-rows-eq0.false c.if-rows-gt-MAX_LEN.false in
-    ap Ok c.first_failing.ensures
+    ap Ok (rw (c.new-table.ensures.main, c.new-table.ensures.challenges) at c.first_failing.ensures)
     ∙ sym
     (past
     ∙ rw (
       words_passed args.main.now c.in_ok-words_answer.ensures,
       words_passed args.challenges.now c.in_ok-words_answer-2.ensures,
       words_passed args.offered.now c.in_ok-words_answer-3.ensures,
-      sym c.has_zero_denominator.ensures ∙ c.if-has_zero_denominator.false,
+      sym (rw (c.new-table.ensures.main, c.new-table.ensures.challenges) at c.has_zero_denominator.ensures) ∙ c.if-has_zero_denominator.false,
     ))

@@ -11,7 +11,7 @@ use Rattle.field_base.specs.Words.{all_below}
 use Rattle.field_base.proofs.Below.{holds_past}
 use Rattle.isa.specs.declared.Instruction.{Instruction}
 use Rattle.isa_decoding.specs.declared.Undecodable.{Undecodable}
-use Rattle.table_rows.proofs.Rows.{length-row, rest_part}
+use Rattle.table_rows.proofs.Rows.{rest_part}
 use Rattle.column_entries.specs.Row.{instruction_of}
 use Rattle.extend_answer.specs.Strict.{is_read}
 use Rattle.extend_answer.proofs.Words.{words_passed, words_refused}
@@ -25,9 +25,6 @@ unread (Err why) e = refl
 read : (d : Result Instruction Undecodable) → is_err d ≡ false → is_read d ≡ true
 read (Ok i) e = refl
 read (Err why) e = cc
-
-pub instruction_from_row-requires : goal.instruction_from_row-requires
-instruction_from_row-requires c = ap length c.row_at-row.ensures ∙ length-row c.args.main.now c.loop-c.c (omega arith)
 
 pub returns-then-is_err : goal.returns-then-is_err
 returns-then-is_err c =

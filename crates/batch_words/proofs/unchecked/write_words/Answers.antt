@@ -1,5 +1,5 @@
 -- The bytes of the first i words are in the batch, which is as it was elsewhere.
-use mathlib.Core.Path.{◌≡◌, sym, ap₂, ◌∙◌}
+use mathlib.Core.Path.{◌≡◌, sym, ap, ap₂, ◌∙◌}
 use Prim.Native.Nat.{◌+◌, ◌*◌}
 use native.Mathlib.Omega.{arith}
 use lib.ListN.{get_or}
@@ -8,7 +8,7 @@ use Rattle.field_montgomery.specs.Form.{in_form}
 use Rattle.field_montgomery.proofs.Many.{in_form_at, length-in_form}
 use Rattle.batch_words.specs.Words.{little_endian, bytes_of}
 use Rattle.batch_words.specs.Pasted.{pasted}
-use Rattle.batch_words.proofs.Writing.{word_on}
+use Rattle.batch_words.proofs.Writing.{eight_written, word_on}
 use Rattle.batch_words.proofs.Pasting.{pasted_none}
 use Rattle.batch_words.proofs.unchecked.write_words.Goals as goal
 
@@ -23,7 +23,8 @@ loop-i-preserved c =
     let ws = in_form args.form args.words.now in
     let long = length-in_form args.form args.words.now in
     let word : c.word_in.result ≡ get_or ws i 0 = c.word_in.ensures ∙ sym (in_form_at args.form args.words.now i) in
-    c.write_word.ensures ∙ ap₂ (λ l w. pasted l (args.at + 8 * i) (little_endian 8 w)) c.loop-i.invariant word ∙ word_on args.batch.now args.at ws i (omega arith) (omega arith)
+    let bytes : c.to_le_bytes.result ≡ little_endian 8 (get_or ws i 0) = c.to_le_bytes.ensures ∙ eight_written c.word_in.result ∙ ap (little_endian 8) word in
+    c.put_bytes.ensures ∙ ap₂ (λ l bs. pasted l (args.at + 8 * i) bs) c.loop-i.invariant bytes ∙ word_on args.batch.now args.at ws i (omega arith) (omega arith)
 
 pub returns : goal.returns
 returns c =

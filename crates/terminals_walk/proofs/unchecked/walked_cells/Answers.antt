@@ -10,11 +10,19 @@ use Rattle.table_pad.specs.Pad.{padding_row}
 use Rattle.column_entries.specs.AuxRow.{place_of, aux_row}
 use Rattle.column_weights.specs.Ready.{ReadyTable}
 use Rattle.column_steps.specs.Walk.{through}
-use Rattle.extend_fractions.specs.Fractions.{fractions_of, Divisible}
 use Rattle.terminals_extended.specs.Extended.{extended_answer, extended_cells}
 use Rattle.terminals_walk.specs.Grown.{EndsInPadding, Growing}
 use Rattle.terminals_walk.proofs.Walked as walk
 use Rattle.terminals_walk.proofs.unchecked.walked_cells.Goals as goal
+
+pub new-requires : goal.new-requires
+new-requires c =
+    let main : List ℕ = c.args.main.now in
+    let height : ℕ = c.args.height in
+    let challenges : List ℕ = c.args.challenges.now in
+    let g : Growing main height = c.requires.growing in
+    let done : extended_answer main challenges ≡ Done = sym c.in_ok-extended_cells.ensures.answer in
+    subst (ReadyTable challenges) (sym c.row-last.ensures) (walk.last-ready main height g challenges (g.window c.if-rows-height.true) done)
 
 pub walk_padding-requires : goal.walk_padding-requires
 walk_padding-requires c =
@@ -26,13 +34,10 @@ walk_padding-requires c =
     let done : extended_answer main challenges ≡ Done = sym c.in_ok-extended_cells.ensures.answer in
     let words : c.extended_cells.new.cells ≡ extended_cells main challenges = c.in_ok-extended_cells.ensures.cells in
     let k = rows main in
-    let q = sym c.row-last.ensures in
     record {
-      cells_len = walk.words-length main height g challenges e done words;
       canonical_cells = walk.words-canonical main height g challenges e done words;
-      ready_table = subst (ReadyTable challenges) q (walk.last-ready main height g challenges e done);
       first_nonzero = (g.some, omega (arith, g.within, g.short));
-      divisible = subst (λ r. Divisible (fractions_of challenges (padding_row r k) (padding_row r k))) q (walk.padding_divisible main height g challenges e done);
+      divisible = rw (c.new.ensures.words, c.new.ensures.challenges, c.row-last.ensures) (walk.padding_divisible main height g challenges e done);
     }
 
 pub returns-then-rows-height : goal.returns-then-rows-height
@@ -47,7 +52,7 @@ returns-then-rows-height c =
     let k = rows main in
     record {
       answer = sym (walk.same_answer main height g challenges e ∙ done);
-      cells = c.walk_padding.ensures
+      cells = (rw (c.new.ensures.words, c.new.ensures.challenges) at c.walk_padding.ensures)
           ∙ (λ i. aux_row (λ column. through column challenges (padding_row (c.row-last.ensures i)) k (height - k) (element_at c.extended_cells.new.cells (place_of column * 3))))
           ∙ walk.walked main height g challenges e done words;
     }

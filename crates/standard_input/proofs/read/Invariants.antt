@@ -1,6 +1,6 @@
 -- What was read lies within the buffer; each turn reads one byte at least.
 use Rattle.std.proofs.Common.{◌≡◌, ◌-◌, ◌≤◌, length}
-use Rattle.standard_input.proofs.read_input.Given as goal
+use Rattle.standard_input.proofs.read.Given as goal
 
 abbrev pub invariant-loop-n : goal.invariant-loop-n
 invariant-loop-n g l = (length l.buffer ≡ length l.initial.buffer) × (l.n ≤ length l.buffer)

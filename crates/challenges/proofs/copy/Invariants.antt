@@ -1,0 +1,7 @@
+-- The first i words are those of `from`, the others as they were.
+use Rattle.std.proofs.Common.{◌≡◌}
+use lib.Seq.{paste}
+use Rattle.challenges.proofs.copy.Given as goal
+
+abbrev pub invariant-loop-i : goal.invariant-loop-i
+invariant-loop-i l = l.to ≡ paste l.initial.to 0 l.from l.i
